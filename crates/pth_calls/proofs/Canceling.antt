@@ -52,16 +52,9 @@ module _ {P S H : Type 0} (s : State P S H) (t : ℕ) (n : ℤ) where
   otherwise_by true v h = refl
   otherwise_by false v h = absurd (cc h)
 
-  refused_by : (b : Bool) (v : Verdict) → b ≡ false → (refused EINVAL when not b otherwise v) ≡ refused EINVAL
-  refused_by false v h = refl
-  refused_by true v h = absurd (cc h)
-
   -- what it says of a number that names a state, or is 0
   pub cancel_state_said : (n is_from pos 0 to pos 4) ≡ true → (cancel_state s t n).begin.verdict ≡ says (or_nobody (entry_of s.control t)).cancel
   cancel_state_said h = otherwise_by (n is_from pos 0 to pos 4) (says (or_nobody (entry_of s.control t)).cancel) h
-
-  pub cancel_state_refused : (n is_from pos 0 to pos 4) ≡ false → (cancel_state s t n).begin.verdict ≡ refused EINVAL
-  cancel_state_refused h = refused_by (n is_from pos 0 to pos 4) (says (or_nobody (entry_of s.control t)).cancel) h
 
 -- a state is set, or for 0 it stays
 module _ {P S H : Type 0} (w : WorldOf P S H) (t : ℕ) (n a : ℤ) (x : ℕ) (e : Entry) where

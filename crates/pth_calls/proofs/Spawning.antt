@@ -3,7 +3,7 @@ use Rattle.std.proofs.Common.{◌≡◌, ◌+◌, ℕ, ℤ, pos, refl, sym, Bool
 use Rattle.pth_base.specs.Program.{Functions}
 use Rattle.pth_base.specs.declared.answer.Answer.TheVariants as answer
 use Rattle.pth_base.specs.declared.errno.Errno.{Errno}
-use Rattle.pth_base.specs.declared.errno.Errno.TheVariants.{EINVAL, EAGAIN}
+use Rattle.pth_base.specs.declared.errno.Errno.TheVariants.{EAGAIN}
 use Rattle.pth_threads.specs.declared.entry.NewThread.{NewThread}
 use Rattle.pth_numbered.specs.Operands.{is_below}
 use Rattle.pth_model.specs.State.{Control, State}
@@ -15,12 +15,6 @@ use Rattle.pth_world.specs.Shows.{Shows}
 module _ {P S H : Type 0} (f : P → Functions S H) (s : State P S H) (t : ℕ) (b v x : ℤ) where
   abbrev bodies : ℕ
   bodies = (f s.control.program).bodies
-
-  pub no_body : is_below b bodies ≡ false → (spawn f s t b v x).begin.verdict ≡ Says (answer.Fail EINVAL)
-  no_body none = rw none refl
-
-  pub no_values : (e : Errno) → is_below b bodies ≡ true → Err e ≡ values_for s.control t x → (spawn f s t b v x).begin.verdict ≡ Says (answer.Fail e)
-  no_values e some none = rw (some, sym none) refl
 
   pub no_room : (of : NewThread) → is_below b bodies ≡ true → Ok of ≡ values_for s.control t x → has_room s.control ≡ false → (spawn f s t b v x).begin.verdict ≡ Says (answer.Fail EAGAIN)
   no_room of some values none = rw (some, sym values, none) refl

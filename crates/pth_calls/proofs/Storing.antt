@@ -149,9 +149,6 @@ module _ {P S H : Type 0} (f : P → Functions S H) (s : State P S H) (t : ℕ) 
   abbrev effect_by : Bool → Bool → Transition P S H
   effect_by known used = unless_refused (refuses (verdict_by known)) (where_so (not used) (changes (uses (number o)) and_then runs_handler f t (handler h) v)) s
 
-  pub first_verdict : is_below o once_limit ≡ true → (once f s t o h v).begin.verdict ≡ says 1
-  first_verdict known = ap verdict_by known
-
   pub no_verdict : is_below o once_limit ≡ false → (once f s t o h v).begin.verdict ≡ refused EINVAL
   no_verdict unknown = ap verdict_by unknown
 

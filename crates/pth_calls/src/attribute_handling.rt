@@ -19,7 +19,7 @@ use pth_base::errno::Errno;
 use pth_base::ids::Tid;
 use pth_base::memory::OutOfMemory;
 use pth_base::program::Program;
-use pth_end::saying::{done, refused};
+use pth_end::saying::{answer_of, refused};
 use pth_world::world::World;
 
 // The value of a field, as an answer.
@@ -73,7 +73,7 @@ fn attr_init<P: Program>(w: &mut World<P>, a: i64) -> Answer
     ensures answered { IsAnswered w.old w.new result (λ (s : State P P.State P.Shared). (init_row s a).begin) }
     ensures frame { Frame w.old w.new no_numbers w.old.scheduler.running false }
 {
-    done(w.attrs_mut().init(a))
+    answer_of(w.attrs_mut().init(a))
 }
 
 // pth_attr_set: a field of an object is set, or of the thread to which it is bound.
@@ -82,7 +82,7 @@ fn attr_set<P: Program>(w: &mut World<P>, a: i64, v: &AttrValue) -> Answer
     ensures answered { IsAnswered w.old w.new result (λ (s : State P P.State P.Shared). (set_row s a v.now).begin) }
     ensures frame { Frame w.old w.new no_numbers w.old.scheduler.running false }
 {
-    done(w.attr_set(a, v))
+    answer_of(w.attr_set(a, v))
 }
 
 // pth_attr_get: a field of an object, or of the thread to which it is bound.
@@ -102,7 +102,7 @@ fn attr_destroy<P: Program>(w: &mut World<P>, a: i64) -> Answer
     ensures answered { IsAnswered w.old w.new result (λ (s : State P P.State P.Shared). (destroy_row s a).begin) }
     ensures frame { Frame w.old w.new no_numbers w.old.scheduler.running false }
 {
-    done(w.attrs_mut().destroy(a))
+    answer_of(w.attrs_mut().destroy(a))
 }
 
 /// The answer of a call on attribute objects.

@@ -1,7 +1,6 @@
 //! Cancellation: `pth_cancel_state`, `pth_cancel_point`, `pth_cancel`, `pth_abort`.
 
-ghost use Rattle.std.specs.Prelude.{◌≡◌, ◌≢◌, true, false, pos, Some, None, IfOk, IfErr, OnOk, OnErr, if◌then◌else◌};
-ghost use Rattle.pth_base.specs.Cut.{IsCut};
+ghost use Rattle.std.specs.Prelude.{◌≡◌, ◌≢◌, true, false, pos, Some, None, IfOk, IfErr, OnOk, if◌then◌else◌};
 ghost use Rattle.pth_base.specs.Facilities.{facility_of};
 ghost use Rattle.pth_base.specs.declared.call.Call.TheVariants.{Abort, Cancel};
 ghost use Rattle.pth_base.specs.declared.facility.Facility.TheVariants as facility;
@@ -17,7 +16,7 @@ ghost use Rattle.pth_model.specs.Verdict.{refused, says};
 ghost use Rattle.pth_numbered.specs.Operands.{number as operand, ◌is_from◌to◌};
 ghost use Rattle.pth_queue.specs.declared.queue.Queue.TheVariants as queue;
 ghost use Rattle.pth_world.specs.Frame.{Frame, runs_after, yields_after};
-ghost use Rattle.pth_world.specs.Leading.{Goes, Leads, IsAnswered, IsQuiet};
+ghost use Rattle.pth_world.specs.Leading.{Goes, LedTo, IsAnswered, IsQuiet};
 ghost use Rattle.pth_world.specs.Numbering.{no_numbers};
 ghost use Rattle.pth_world.specs.Shows.{StandsFor};
 ghost use Rattle.pth_world.specs.Sound.{IsAlive, IsKnown};
@@ -93,8 +92,7 @@ fn end_or_ask<P: Program>(
 ) -> Result<(), OutOfMemory>
     requires whole { Whole w.old }
     requires alive { IsAlive w.old.threads t.0 }
-    ensures ok { OnOk result ((s : State P P.State P.Shared) → StandsFor w.old s → Leads w.new marks.old marks.new (ends_or_asks P.functions t.0 cancel s)) }
-    ensures err { OnErr result ((s : State P P.State P.Shared) → StandsFor w.old s → IsCut marks.old marks.new (ends_or_asks P.functions t.0 cancel s).marks) }
+    ensures goes { LedTo (StandsFor w.old) (ends_or_asks P.functions t.0 cancel) w.new marks.old marks.new result }
     ensures frame { OnOk result (Frame w.old w.new no_numbers (if is_asynchronous_state cancel then other_than t.0 w.old.scheduler.running else w.old.scheduler.running) false) }
 {
     if is_asynchronous(cancel) {
@@ -159,8 +157,7 @@ fn drop_or_abort<P: Program>(
     requires known { IsKnown w.old.threads t.0 }
     requires alive { dead ≡ false → IsAlive w.old.threads t.0 }
     requires dead { dead ≡ true → IsIn queue.Dead w.old.threads t.0 }
-    ensures ok { OnOk result ((s : State P P.State P.Shared) → StandsFor w.old s → Leads w.new marks.old marks.new (aborts P.functions t.0 dead s)) }
-    ensures err { OnErr result ((s : State P P.State P.Shared) → StandsFor w.old s → IsCut marks.old marks.new (aborts P.functions t.0 dead s).marks) }
+    ensures goes { LedTo (StandsFor w.old) (aborts P.functions t.0 dead) w.new marks.old marks.new result }
     ensures frame { OnOk result (Frame w.old w.new no_numbers (if dead then w.old.scheduler.running else other_than t.0 w.old.scheduler.running) false) }
 {
     if dead {

@@ -1,7 +1,6 @@
 //! Thread cleanups: `pth_cleanup_push`, `pth_cleanup_pop`.
 
-ghost use Rattle.std.specs.Prelude.{◌≡◌, not, true, Some, IfOk, OnOk, OnErr, false};
-ghost use Rattle.pth_base.specs.Cut.{IsCut};
+ghost use Rattle.std.specs.Prelude.{◌≡◌, not, true, Some, IfOk, OnOk, false};
 ghost use Rattle.pth_base.specs.Facilities.{facility_of};
 ghost use Rattle.pth_base.specs.declared.call.Call.TheVariants.{CleanupPop};
 ghost use Rattle.pth_base.specs.declared.facility.Facility.TheVariants as facility;
@@ -15,7 +14,7 @@ ghost use Rattle.pth_model.specs.State.{State};
 ghost use Rattle.pth_model.specs.Transition.{where_so};
 ghost use Rattle.pth_numbered.specs.Operands.{is_zero};
 ghost use Rattle.pth_world.specs.Frame.{Frame, runs_after, yields_after};
-ghost use Rattle.pth_world.specs.Leading.{Goes, Leads, IsTold};
+ghost use Rattle.pth_world.specs.Leading.{Goes, LedTo, IsTold};
 ghost use Rattle.pth_world.specs.Numbering.{no_numbers};
 ghost use Rattle.pth_world.specs.Shows.{StandsFor};
 ghost use Rattle.pth_world.specs.Sound.{IsAlive};
@@ -68,8 +67,7 @@ fn run_popped<P: Program>(
 ) -> Result<(), OutOfMemory>
     requires whole { Whole w.old }
     requires alive { IsAlive w.old.threads t.0 }
-    ensures ok { OnOk result ((s : State P P.State P.Shared) → StandsFor w.old s → Leads w.new marks.old marks.new (where_so (not (is_zero v)) (runs_handler P.functions t.0 h arg) s)) }
-    ensures err { OnErr result ((s : State P P.State P.Shared) → StandsFor w.old s → IsCut marks.old marks.new (where_so (not (is_zero v)) (runs_handler P.functions t.0 h arg) s).marks) }
+    ensures goes { LedTo (StandsFor w.old) (where_so (not (is_zero v)) (runs_handler P.functions t.0 h arg)) w.new marks.old marks.new result }
     ensures handled { OnOk result (IsHandled w.old w.new) }
 {
     if v == 0 {

@@ -18,7 +18,7 @@ use pth_base::call::Call;
 use pth_base::ids::Tid;
 use pth_base::program::Program;
 use pth_end::acts::notify;
-use pth_end::saying::done;
+use pth_end::saying::answer_of;
 use pth_world::world::World;
 
 // pth_cond_init: a condition can be awaited and notified from now on.
@@ -27,7 +27,7 @@ fn init_condition<P: Program>(w: &mut World<P>, c: i64) -> Answer
     ensures answered { IsAnswered w.old w.new result (λ (s : State P P.State P.Shared). (init_row s c).begin) }
     ensures frame { Frame w.old w.new no_numbers w.old.scheduler.running false }
 {
-    done(w.conditions_mut().init(c))
+    answer_of(w.conditions_mut().init(c))
 }
 
 /// The answer of a call on conditions that does not block its thread.

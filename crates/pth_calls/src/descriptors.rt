@@ -17,7 +17,7 @@ ghost use Rattle.pth_world.specs.Whole.{Whole};
 use pth_base::answer::Answer;
 use pth_base::call::Call;
 use pth_base::program::Program;
-use pth_end::saying::done;
+use pth_end::saying::answer_of;
 use pth_world::world::World;
 
 // close: a descriptor is live never again.
@@ -26,7 +26,7 @@ fn close<P: Program>(w: &mut World<P>, f: i64) -> Answer
     ensures answered { IsAnswered w.old w.new result (λ (s : State P P.State P.Shared). (close_row s f).begin) }
     ensures frame { Frame w.old w.new no_numbers w.old.scheduler.running false }
 {
-    done(w.kernel_mut().close(f))
+    answer_of(w.kernel_mut().close(f))
 }
 
 /// The answer of a call on descriptors that does not block its thread.

@@ -22,7 +22,7 @@ use pth_base::event::{EvLine, EventSpec};
 use pth_base::ids::Tid;
 use pth_base::memory::OutOfMemory;
 use pth_base::program::Program;
-use pth_end::saying::{done, refused};
+use pth_end::saying::{answer_of, refused};
 use pth_model::times::{micros, moment_of};
 use pth_ring::event::Status;
 use pth_world::world::World;
@@ -192,7 +192,7 @@ fn ev_free<P: Program>(w: &mut World<P>, e: i64, all: bool) -> Answer
     ensures answered { IsAnswered w.old w.new result (λ (s : State P P.State P.Shared). (free_row s e all).begin) }
     ensures frame { Frame w.old w.new no_numbers w.old.scheduler.running false }
 {
-    done(w.rings_mut().free(e, all))
+    answer_of(w.rings_mut().free(e, all))
 }
 
 // The line of a call that makes an event. None for other calls.
@@ -229,7 +229,7 @@ fn line_of(call: &Call) -> Option<EvLine>
     }
 }
 
-/// The answer of a call on events. Those of moments and of descriptors are built.
+/// The answer of a call on events, whatever an event is of.
 pub(crate) fn answer_events<P: Program>(
     w: &mut World<P>,
     t: Tid,

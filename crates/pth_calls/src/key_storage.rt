@@ -20,7 +20,7 @@ use pth_base::ids::Tid;
 use pth_base::memory::OutOfMemory;
 use pth_base::program::Program;
 use pth_end::acts::set_key;
-use pth_end::saying::done;
+use pth_end::saying::answer_of;
 use pth_world::world::World;
 
 // pth_key_create: the least free key.
@@ -43,7 +43,7 @@ fn delete_key<P: Program>(w: &mut World<P>, t: Tid, k: i64) -> Answer
     ensures told { IsTold w.old w.new (Answered t (KeyDelete k) result) result (λ (s : State P P.State P.Shared). (delete_row s k).begin) }
     ensures frame { Frame w.old w.new no_numbers (Some t.0) false }
 {
-    done(w.delete_key(k))
+    answer_of(w.delete_key(k))
 }
 
 // pth_key_getdata: the thread's value under a key.

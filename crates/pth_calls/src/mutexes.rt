@@ -19,7 +19,7 @@ use pth_base::call::Call;
 use pth_base::ids::Tid;
 use pth_base::program::Program;
 use pth_end::acts::release_mutex;
-use pth_end::saying::done;
+use pth_end::saying::answer_of;
 use pth_world::world::World;
 
 // pth_mutex_init: a mutex can be taken from now on.
@@ -29,7 +29,7 @@ fn init_mutex<P: Program>(w: &mut World<P>, t: Tid, m: i64) -> Answer
     ensures told { IsTold w.old w.new (Answered t (MutexInit m) result) result (λ (s : State P P.State P.Shared). (init_row s m).begin) }
     ensures frame { Frame w.old w.new no_numbers (Some t.0) false }
 {
-    done(w.init_mutex(m))
+    answer_of(w.init_mutex(m))
 }
 
 /// The answer of a call on mutexes that does not block its thread.

@@ -1,7 +1,6 @@
 //! What is done once: `pth_once`.
 
-ghost use Rattle.std.specs.Prelude.{◌≡◌, Some, IfOk, OnOk, OnErr, false};
-ghost use Rattle.pth_base.specs.Cut.{IsCut};
+ghost use Rattle.std.specs.Prelude.{◌≡◌, Some, IfOk, OnOk, false};
 ghost use Rattle.pth_base.specs.declared.call.Call.TheVariants.{Once};
 ghost use Rattle.pth_model.specs.Calls.{begun};
 ghost use Rattle.pth_model.specs.Cleanups.{once as once_row};
@@ -9,7 +8,7 @@ ghost use Rattle.pth_model.specs.Row.{effect_of};
 ghost use Rattle.pth_model.specs.State.{State};
 ghost use Rattle.pth_model.specs.declared.verdict.Verdict.TheVariants.{Says};
 ghost use Rattle.pth_world.specs.Frame.{Frame, runs_after, yields_after};
-ghost use Rattle.pth_world.specs.Leading.{Goes, Leads};
+ghost use Rattle.pth_world.specs.Leading.{Goes, LedTo};
 ghost use Rattle.pth_world.specs.Numbering.{no_numbers};
 ghost use Rattle.pth_world.specs.Shows.{StandsFor};
 ghost use Rattle.pth_world.specs.Whole.{Whole};
@@ -38,8 +37,7 @@ fn use_control<P: Program>(
     requires whole { Whole w.old }
     requires runs { w.old.scheduler.running ≡ Some t.0 }
     ensures verdict { IfOk result (λ a. (s : State P P.State P.Shared) → StandsFor w.old s → (once_row P.functions s t.0 o h v).begin.verdict ≡ Says a) }
-    ensures ok { OnOk result ((s : State P P.State P.Shared) → StandsFor w.old s → Leads w.new marks.old marks.new (effect_of (once_row P.functions s t.0 o h v).begin s)) }
-    ensures err { OnErr result ((s : State P P.State P.Shared) → StandsFor w.old s → IsCut marks.old marks.new (effect_of (once_row P.functions s t.0 o h v).begin s).marks) }
+    ensures goes { LedTo (StandsFor w.old) (λ (s : State P P.State P.Shared). effect_of (once_row P.functions s t.0 o h v).begin s) w.new marks.old marks.new result }
     ensures frame { OnOk result (Frame w.old w.new no_numbers (Some t.0) false) }
 {
     match w.once(o) {

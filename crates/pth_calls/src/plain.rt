@@ -1,7 +1,6 @@
 //! The calls that neither block their thread nor give up control, and that end nothing.
 
-ghost use Rattle.std.specs.Prelude.{◌≡◌, true, false, Some, IfOk, OnOk, OnErr};
-ghost use Rattle.pth_base.specs.Cut.{IsCut};
+ghost use Rattle.std.specs.Prelude.{◌≡◌, true, false, Some, IfOk, OnOk};
 ghost use Rattle.pth_base.specs.declared.mark.Mark.TheVariants.{Answered};
 ghost use Rattle.pth_calls.specs.Plain.{is_plain};
 ghost use Rattle.pth_model.specs.Calls.{begun};
@@ -9,7 +8,7 @@ ghost use Rattle.pth_model.specs.Rows.{row_of};
 ghost use Rattle.pth_model.specs.State.{State};
 ghost use Rattle.pth_model.specs.declared.next.Next.TheVariants as next;
 ghost use Rattle.pth_world.specs.Frame.{Frame};
-ghost use Rattle.pth_world.specs.Leading.{Leads, IsTold};
+ghost use Rattle.pth_world.specs.Leading.{LedTo, IsTold};
 ghost use Rattle.pth_world.specs.Numbering.{HasNumbers, one_of_each};
 ghost use Rattle.pth_world.specs.Shows.{StandsFor};
 ghost use Rattle.pth_world.specs.Whole.{Whole};
@@ -81,8 +80,7 @@ pub fn begin_plain<P: Program>(
     requires few { HasNumbers w.old }
     requires plain { is_plain call.now ≡ true }
     ensures next { IfOk result (λ a. (s : State P P.State P.Shared) → StandsFor w.old s → next.Done a ≡ (begun P.functions t.0 call.now s).next) }
-    ensures ok { OnOk result ((s : State P P.State P.Shared) → StandsFor w.old s → Leads w.new marks.old marks.new (begun P.functions t.0 call.now s).told) }
-    ensures err { OnErr result ((s : State P P.State P.Shared) → StandsFor w.old s → IsCut marks.old marks.new (begun P.functions t.0 call.now s).told.marks) }
+    ensures goes { LedTo (StandsFor w.old) (λ (s : State P P.State P.Shared). (begun P.functions t.0 call.now s).told) w.new marks.old marks.new result }
     ensures frame { OnOk result (Frame w.old w.new one_of_each (Some t.0) false) }
 {
     let answer = answer(w, t, call)?;

@@ -19,7 +19,7 @@ use pth_base::answer::Answer;
 use pth_base::call::Call;
 use pth_base::ids::Tid;
 use pth_base::program::Program;
-use pth_end::saying::done;
+use pth_end::saying::answer_of;
 use pth_world::world::World;
 
 // pth_rwlock_init: a lock can be taken from now on.
@@ -29,7 +29,7 @@ fn init_lock<P: Program>(w: &mut World<P>, t: Tid, l: i64) -> Answer
     ensures told { IsTold w.old w.new (Answered t (RwInit l) result) result (λ (s : State P P.State P.Shared). (init_row s l).begin) }
     ensures frame { Frame w.old w.new no_numbers (Some t.0) false }
 {
-    done(w.init_lock(l))
+    answer_of(w.init_lock(l))
 }
 
 // pth_rwlock_release: the thread holds the lock no longer.
@@ -39,7 +39,7 @@ fn release_lock<P: Program>(w: &mut World<P>, t: Tid, l: i64) -> Answer
     ensures told { IsTold w.old w.new (Answered t (RwRelease l) result) result (λ (s : State P P.State P.Shared). (release_row s t.0 l).begin) }
     ensures frame { Frame w.old w.new no_numbers (Some t.0) false }
 {
-    done(w.release_lock(t, l))
+    answer_of(w.release_lock(t, l))
 }
 
 /// The answer of a call on read-write locks that does not block its thread.

@@ -51,13 +51,6 @@ module _ {P S H : Type 0} where
     tells = appended ∙ ap (λ (ms : List Mark). old ++ (ms ++ m ∷ [])) (sym ch.silent);
   }
 
-  -- a change, and then a piece of which a call says where it leads
-  pub changed_then : (v x : WorldOf P S H) (s : State P S H) (a b : Piece P S H) (old new : List Mark) → Changed v (a s) → ((u : State P S H) → StandsFor v u → Leads x old new (b u)) → Leads x old new ((a and_then b) s)
-  changed_then v x s a b old new ch leads =
-      let u = (a s).state in
-      let l = leads u (record { control = ch.shows; store = ch.store }) in
-      record { stands = l.stands; tells = l.tells ∙ ap (λ (ms : List Mark). old ++ (ms ++ (b u).marks)) (sym ch.silent) }
-
   -- a call that changes nothing of what threads have, once it is answered
   pub answered_told : (w v : WorldOf P S H) (m : Mark) (a : Answer) (attempt : State P S H → Attempt P S H) → IsQuiet m → IsAnswered w v a attempt → IsTold w v m a attempt
   answered_told w v m a attempt quiet is = record {

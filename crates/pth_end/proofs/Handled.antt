@@ -1,8 +1,6 @@
 -- What the acts of handlers leave, one after another.
-use Rattle.std.proofs.Common.{◌≡◌, ◌∙◌, ℕ, false, List, Option, Result, Ok, Err, OnOk, refl, ap, sym, subst}
-use Rattle.pth_cond.specs.Conditions.{Condition}
+use Rattle.std.proofs.Common.{◌≡◌, ◌∙◌, ℕ, false, Option, Result, Ok, Err, OnOk, refl, ap, sym, subst}
 use Rattle.pth_end.specs.Handling.{IsHandled}
-use Rattle.pth_world.proofs.Conditions.{seated_whole}
 use Rattle.pth_world.proofs.Frames.{gives_none}
 use Rattle.pth_world.proofs.Ranks.{ranks_none, ranks_same}
 use Rattle.pth_world.specs.Frame.{Frame}
@@ -29,10 +27,6 @@ module _ {P S H : Type 0} where
     ports = ap (λ (x : WorldOf P S H). x.store.ports.made) same;
     cleanups = ap (λ (x : WorldOf P S H). (store_of x.store).cleanups) same;
   }
-
-  -- conditions were notified
-  pub handled_seated : (w : WorldOf P S H) (c : List Condition) → Whole w → IsHandled w (record w { conditions = c })
-  handled_seated w c whole = record { whole = seated_whole w c whole; same = refl; ports = refl; cleanups = refl }
 
   pub handled_then : (u v w : WorldOf P S H) → IsHandled u v → IsHandled v w → IsHandled u w
   handled_then u v w a b = record {

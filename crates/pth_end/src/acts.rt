@@ -1,7 +1,6 @@
 //! The acts of handlers, each as its call by the thread that runs the handler.
 
-ghost use Rattle.std.specs.Prelude.{IfOk, OnOk, OnErr};
-ghost use Rattle.pth_base.specs.Cut.{IsCut};
+ghost use Rattle.std.specs.Prelude.{IfOk, OnOk};
 ghost use Rattle.pth_base.specs.declared.call.Call.TheVariants.{KeySet, MutexRelease, PortPut};
 ghost use Rattle.pth_base.specs.declared.ids.Tid.{Tid};
 ghost use Rattle.pth_base.specs.declared.mark.Mark.TheVariants.{Acted, Answered};
@@ -12,12 +11,12 @@ ghost use Rattle.pth_model.specs.KeyStorage.{key_set};
 ghost use Rattle.pth_model.specs.Mutexes.{mutex_release};
 ghost use Rattle.pth_model.specs.Ports.{port_put};
 ghost use Rattle.pth_model.specs.State.{State};
-ghost use Rattle.pth_world.specs.Leading.{IsAnswered, IsTold, Leads};
+ghost use Rattle.pth_world.specs.Leading.{LedTo, IsAnswered, IsTold};
 ghost use Rattle.pth_world.specs.Shows.{StandsFor};
 ghost use Rattle.pth_world.specs.Sound.{IsAlive};
 ghost use Rattle.pth_world.specs.Whole.{Whole};
 
-use crate::saying::{done, refused};
+use crate::saying::{answer_of, refused};
 use pth_base::act::Act;
 use pth_base::answer::Answer;
 use pth_base::ids::Tid;
@@ -51,7 +50,7 @@ pub fn release_mutex<P: Program>(w: &mut World<P>, t: Tid, m: i64) -> Answer
     ensures told { IsTold w.old w.new (Answered t (MutexRelease m) result) result (λ (s : State P P.State P.Shared). (mutex_release s t.0 m).begin) }
     ensures handled { IsHandled w.old w.new }
 {
-    done(w.release_mutex(t, m))
+    answer_of(w.release_mutex(t, m))
 }
 
 /// `pth_cond_notify`, as a call and as an act: of the seats at a condition that were not notified yet the first is, if `v` is 0,
@@ -61,7 +60,7 @@ pub fn notify<P: Program>(w: &mut World<P>, c: i64, v: i64) -> Answer
     ensures answered { IsAnswered w.old w.new result (λ (s : State P P.State P.Shared). (cond_notify s c v).begin) }
     ensures handled { IsHandled w.old w.new }
 {
-    done(w.conditions_mut().notify(c, v != 0))
+    answer_of(w.conditions_mut().notify(c, v != 0))
 }
 
 /// `pth_msgport_put`, as a call and as an act: a message with a value is last at a port. `reply` is the port for its reply, 0 for
@@ -113,8 +112,7 @@ pub fn make_act<P: Program>(
 ) -> Result<(), OutOfMemory>
     requires whole { Whole w.old }
     requires alive { IsAlive w.old.threads t.0 }
-    ensures ok { OnOk result ((s : State P P.State P.Shared) → StandsFor w.old s → Leads w.new marks.old marks.new (acts t.0 act s)) }
-    ensures err { OnErr result ((s : State P P.State P.Shared) → StandsFor w.old s → IsCut marks.old marks.new (acts t.0 act s).marks) }
+    ensures goes { LedTo (StandsFor w.old) (acts t.0 act) w.new marks.old marks.new result }
     ensures handled { OnOk result (IsHandled w.old w.new) }
 {
     let answer = answer_act(w, t, act)?;

@@ -1,12 +1,10 @@
 //! Ends that a thread was asked for, or is made to take: `pth_cancel`, `pth_abort`, `pth_cancel_point`.
 
-ghost use Rattle.std.specs.Prelude.{◌≡◌, false, Some, OnOk, OnErr};
-ghost use Rattle.pth_base.specs.Cut.{IsCut};
+ghost use Rattle.std.specs.Prelude.{◌≡◌, false, Some, OnOk};
 ghost use Rattle.pth_model.specs.Cancellation.{aborted, canceled_by_other, canceled_in, takes_request};
 ghost use Rattle.pth_model.specs.Ending.{other_than};
-ghost use Rattle.pth_model.specs.State.{State};
 ghost use Rattle.pth_world.specs.Frame.{Frame};
-ghost use Rattle.pth_world.specs.Leading.{Leads};
+ghost use Rattle.pth_world.specs.Leading.{LedTo};
 ghost use Rattle.pth_world.specs.Numbering.{no_numbers};
 ghost use Rattle.pth_world.specs.Shows.{StandsFor};
 ghost use Rattle.pth_world.specs.Sound.{IsAlive};
@@ -34,8 +32,7 @@ pub fn cancel_from_outside<P: Program>(
 ) -> Result<(), OutOfMemory>
     requires whole { Whole w.old }
     requires alive { IsAlive w.old.threads t.0 }
-    ensures ok { OnOk result ((s : State P P.State P.Shared) → StandsFor w.old s → Leads w.new marks.old marks.new (canceled_by_other P.functions t.0 s)) }
-    ensures err { OnErr result ((s : State P P.State P.Shared) → StandsFor w.old s → IsCut marks.old marks.new (canceled_by_other P.functions t.0 s).marks) }
+    ensures goes { LedTo (StandsFor w.old) (canceled_by_other P.functions t.0) w.new marks.old marks.new result }
     ensures frame { OnOk result (Frame w.old w.new no_numbers (other_than t.0 w.old.scheduler.running) false) }
 {
     marks.push(Mark::Canceled { tid: t, call: None })?;
@@ -51,8 +48,7 @@ pub fn take_request<P: Program>(
 ) -> Result<(), OutOfMemory>
     requires whole { Whole w.old }
     requires runs { w.old.scheduler.running ≡ Some t.0 }
-    ensures ok { OnOk result ((s : State P P.State P.Shared) → StandsFor w.old s → Leads w.new marks.old marks.new (takes_request t.0 call s)) }
-    ensures err { OnErr result ((s : State P P.State P.Shared) → StandsFor w.old s → IsCut marks.old marks.new (takes_request t.0 call s).marks) }
+    ensures goes { LedTo (StandsFor w.old) (takes_request t.0 call) w.new marks.old marks.new result }
     ensures alive { IsAlive w.new.threads t.0 }
     ensures frame { Frame w.old w.new no_numbers w.old.scheduler.running false }
 {
@@ -73,8 +69,7 @@ pub fn cancel_within<P: Program>(
 ) -> Result<(), OutOfMemory>
     requires whole { Whole w.old }
     requires runs { w.old.scheduler.running ≡ Some t.0 }
-    ensures ok { OnOk result ((s : State P P.State P.Shared) → StandsFor w.old s → Leads w.new marks.old marks.new (canceled_in P.functions t.0 call s)) }
-    ensures err { OnErr result ((s : State P P.State P.Shared) → StandsFor w.old s → IsCut marks.old marks.new (canceled_in P.functions t.0 call s).marks) }
+    ensures goes { LedTo (StandsFor w.old) (canceled_in P.functions t.0 call) w.new marks.old marks.new result }
     ensures frame { OnOk result (Frame w.old w.new no_numbers (other_than t.0 w.old.scheduler.running) false) }
 {
     take_request(w, t, call, marks)?;
@@ -90,8 +85,7 @@ pub fn abort_thread<P: Program>(
 ) -> Result<(), OutOfMemory>
     requires whole { Whole w.old }
     requires alive { IsAlive w.old.threads t.0 }
-    ensures ok { OnOk result ((s : State P P.State P.Shared) → StandsFor w.old s → Leads w.new marks.old marks.new (aborted P.functions t.0 s)) }
-    ensures err { OnErr result ((s : State P P.State P.Shared) → StandsFor w.old s → IsCut marks.old marks.new (aborted P.functions t.0 s).marks) }
+    ensures goes { LedTo (StandsFor w.old) (aborted P.functions t.0) w.new marks.old marks.new result }
     ensures frame { OnOk result (Frame w.old w.new no_numbers (other_than t.0 w.old.scheduler.running) false) }
 {
     w.set_field(t, Change::Joinable(false));

@@ -1,11 +1,9 @@
 //! The cleanup handlers of a thread that ends.
 
-ghost use Rattle.std.specs.Prelude.{drop, ◌≤◌, OnOk, OnErr};
-ghost use Rattle.pth_base.specs.Cut.{IsCut};
+ghost use Rattle.std.specs.Prelude.{drop, ◌≤◌, OnOk};
 ghost use Rattle.pth_end.specs.Handling.{IsHandled};
 ghost use Rattle.pth_model.specs.Ending.{runs_each, runs_cleanups};
-ghost use Rattle.pth_model.specs.State.{State};
-ghost use Rattle.pth_world.specs.Leading.{Leads};
+ghost use Rattle.pth_world.specs.Leading.{LedTo};
 ghost use Rattle.pth_world.specs.Shows.{StandsFor};
 ghost use Rattle.pth_world.specs.Sound.{IsAlive};
 ghost use Rattle.pth_world.specs.Store.{store_of};
@@ -28,8 +26,7 @@ fn run_below<P: Program>(
     requires whole { Whole w.old }
     requires alive { IsAlive w.old.threads t.0 }
     requires low { n ≤ 256 }
-    ensures ok { OnOk result ((s : State P P.State P.Shared) → StandsFor w.old s → Leads w.new marks.old marks.new (runs_each P.functions t.0 (drop n ((store_of w.old.store).cleanups t.0)) s)) }
-    ensures err { OnErr result ((s : State P P.State P.Shared) → StandsFor w.old s → IsCut marks.old marks.new (runs_each P.functions t.0 (drop n ((store_of w.old.store).cleanups t.0)) s).marks) }
+    ensures goes { LedTo (StandsFor w.old) (runs_each P.functions t.0 (drop n ((store_of w.old.store).cleanups t.0))) w.new marks.old marks.new result }
     ensures handled { OnOk result (IsHandled w.old w.new) }
 {
     let Some((h, arg)) = w.cleanup_below(t, n) else {
@@ -48,8 +45,7 @@ pub fn run_cleanups<P: Program>(
 ) -> Result<(), OutOfMemory>
     requires whole { Whole w.old }
     requires alive { IsAlive w.old.threads t.0 }
-    ensures ok { OnOk result ((s : State P P.State P.Shared) → StandsFor w.old s → Leads w.new marks.old marks.new (runs_cleanups P.functions t.0 s)) }
-    ensures err { OnErr result ((s : State P P.State P.Shared) → StandsFor w.old s → IsCut marks.old marks.new (runs_cleanups P.functions t.0 s).marks) }
+    ensures goes { LedTo (StandsFor w.old) (runs_cleanups P.functions t.0) w.new marks.old marks.new result }
     ensures handled { OnOk result (IsHandled w.old w.new) }
 {
     run_below(w, t, 0, marks)

@@ -1,11 +1,9 @@
 //! The destructors of a thread that ends.
 
-ghost use Rattle.std.specs.Prelude.{◌≡◌, ◌≤◌, true, IfSome, OnOk, OnErr};
-ghost use Rattle.pth_base.specs.Cut.{IsCut};
+ghost use Rattle.std.specs.Prelude.{◌≡◌, ◌≤◌, true, IfSome, OnOk};
 ghost use Rattle.pth_end.specs.Handling.{IsHandled};
 ghost use Rattle.pth_model.specs.Ending.{due as due_in, next_destructor as next_of, round_limit, runs_destructor, destructs, runs_destructors};
-ghost use Rattle.pth_model.specs.State.{State};
-ghost use Rattle.pth_world.specs.Leading.{Leads};
+ghost use Rattle.pth_world.specs.Leading.{LedTo};
 ghost use Rattle.pth_world.specs.Shows.{StandsFor};
 ghost use Rattle.pth_world.specs.Sound.{IsAlive};
 ghost use Rattle.pth_world.specs.Store.{store_of};
@@ -72,8 +70,7 @@ fn run_destructor<P: Program>(
 ) -> Result<(), OutOfMemory>
     requires whole { Whole w.old }
     requires alive { IsAlive w.old.threads t.0 }
-    ensures ok { OnOk result ((s : State P P.State P.Shared) → StandsFor w.old s → Leads w.new marks.old marks.new (runs_destructor P.functions t.0 due s)) }
-    ensures err { OnErr result ((s : State P P.State P.Shared) → StandsFor w.old s → IsCut marks.old marks.new (runs_destructor P.functions t.0 due s).marks) }
+    ensures goes { LedTo (StandsFor w.old) (runs_destructor P.functions t.0 due) w.new marks.old marks.new result }
     ensures handled { OnOk result (IsHandled w.old w.new) }
 {
     w.clear_key(t, due.key);
@@ -96,8 +93,7 @@ fn run_from<P: Program>(
     requires whole { Whole w.old }
     requires alive { IsAlive w.old.threads t.0 }
     requires few { round.number ≤ round_limit }
-    ensures ok { OnOk result ((s : State P P.State P.Shared) → StandsFor w.old s → Leads w.new marks.old marks.new (destructs P.functions t.0 left round s)) }
-    ensures err { OnErr result ((s : State P P.State P.Shared) → StandsFor w.old s → IsCut marks.old marks.new (destructs P.functions t.0 left round s).marks) }
+    ensures goes { LedTo (StandsFor w.old) (destructs P.functions t.0 left round) w.new marks.old marks.new result }
     ensures handled { OnOk result (IsHandled w.old w.new) }
 {
     if left == 0 {
@@ -119,8 +115,7 @@ pub fn run_destructors<P: Program>(
 ) -> Result<(), OutOfMemory>
     requires whole { Whole w.old }
     requires alive { IsAlive w.old.threads t.0 }
-    ensures ok { OnOk result ((s : State P P.State P.Shared) → StandsFor w.old s → Leads w.new marks.old marks.new (runs_destructors P.functions t.0 s)) }
-    ensures err { OnErr result ((s : State P P.State P.Shared) → StandsFor w.old s → IsCut marks.old marks.new (runs_destructors P.functions t.0 s).marks) }
+    ensures goes { LedTo (StandsFor w.old) (runs_destructors P.functions t.0) w.new marks.old marks.new result }
     ensures handled { OnOk result (IsHandled w.old w.new) }
 {
     run_from(w, t, MOST_DESTRUCTORS, FIRST_ROUND, marks)

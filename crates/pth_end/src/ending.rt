@@ -1,11 +1,9 @@
 //! How a thread ends.
 
-ghost use Rattle.std.specs.Prelude.{false, OnOk, OnErr};
-ghost use Rattle.pth_base.specs.Cut.{IsCut};
+ghost use Rattle.std.specs.Prelude.{false, OnOk};
 ghost use Rattle.pth_model.specs.Ending.{ending, other_than};
-ghost use Rattle.pth_model.specs.State.{State};
 ghost use Rattle.pth_world.specs.Frame.{Frame};
-ghost use Rattle.pth_world.specs.Leading.{Leads};
+ghost use Rattle.pth_world.specs.Leading.{LedTo};
 ghost use Rattle.pth_world.specs.Numbering.{no_numbers};
 ghost use Rattle.pth_world.specs.Shows.{StandsFor};
 ghost use Rattle.pth_world.specs.Sound.{IsAlive};
@@ -22,9 +20,10 @@ use pth_base::memory::OutOfMemory;
 use pth_base::program::Program;
 use pth_world::world::World;
 
-/// Ends a thread that is alive with a value, whoever runs: its wait is undone, with its arrival at a barrier; its cleanup handlers
-/// run, the last pushed first, and then its destructors, and it gives up its mutexes and read-write locks; one that can be joined
-/// is dead until it is joined, and another is gone (`pth_exit`). After an error the world may only be dropped.
+/// Ends a thread that is alive with a value, whoever runs: its wait is undone, its arrival at a barrier is taken back, and its seats
+/// at conditions are handed on; its cleanup handlers run, the last pushed first, and then its destructors, and it gives up its
+/// mutexes and read-write locks; one that can be joined is dead until it is joined, and another is gone (`pth_exit`). After an error
+/// the world may only be dropped.
 pub fn end_thread<P: Program>(
     w: &mut World<P>,
     t: Tid,
@@ -33,8 +32,7 @@ pub fn end_thread<P: Program>(
 ) -> Result<(), OutOfMemory>
     requires whole { Whole w.old }
     requires alive { IsAlive w.old.threads t.0 }
-    ensures ok { OnOk result ((s : State P P.State P.Shared) → StandsFor w.old s → Leads w.new marks.old marks.new (ending P.functions t.0 value s)) }
-    ensures err { OnErr result ((s : State P P.State P.Shared) → StandsFor w.old s → IsCut marks.old marks.new (ending P.functions t.0 value s).marks) }
+    ensures goes { LedTo (StandsFor w.old) (ending P.functions t.0 value) w.new marks.old marks.new result }
     ensures frame { OnOk result (Frame w.old w.new no_numbers (other_than t.0 w.old.scheduler.running) false) }
 {
     undo_wait(w, t, marks)?;

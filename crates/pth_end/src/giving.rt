@@ -7,8 +7,7 @@ ghost use Rattle.pth_end.specs.Handling.{IsHandled};
 ghost use Rattle.pth_lock.specs.Objects.{object_limit};
 ghost use Rattle.pth_lock.specs.Sets.{contains};
 ghost use Rattle.pth_model.specs.Ending.{gives_all};
-ghost use Rattle.pth_model.specs.State.{State};
-ghost use Rattle.pth_world.specs.Leading.{Leads};
+ghost use Rattle.pth_world.specs.Leading.{LedTo};
 ghost use Rattle.pth_world.specs.Shows.{StandsFor};
 ghost use Rattle.pth_world.specs.Sound.{IsAlive};
 ghost use Rattle.pth_world.specs.Whole.{Whole};
@@ -63,8 +62,7 @@ fn tell_given(held: Held, t: Tid, set: u64, marks: &mut Marks) -> Result<(), Out
 pub fn give_all<P: Program>(w: &mut World<P>, t: Tid, marks: &mut Marks) -> Result<(), OutOfMemory>
     requires whole { Whole w.old }
     requires alive { IsAlive w.old.threads t.0 }
-    ensures ok { OnOk result ((s : State P P.State P.Shared) → StandsFor w.old s → Leads w.new marks.old marks.new (gives_all t.0 s)) }
-    ensures err { OnErr result ((s : State P P.State P.Shared) → StandsFor w.old s → IsCut marks.old marks.new (gives_all t.0 s).marks) }
+    ensures goes { LedTo (StandsFor w.old) (gives_all t.0) w.new marks.old marks.new result }
     ensures handled { OnOk result (IsHandled w.old w.new) }
 {
     let mutexes = w.release_mutexes(t);

@@ -1,11 +1,9 @@
 //! Handlers, which a thread runs by making their acts.
 
-ghost use Rattle.std.specs.Prelude.{◌-◌, ◌≤◌, OnOk, OnErr};
-ghost use Rattle.pth_base.specs.Cut.{IsCut};
+ghost use Rattle.std.specs.Prelude.{◌-◌, ◌≤◌, OnOk};
 ghost use Rattle.pth_end.specs.Handling.{IsHandled};
 ghost use Rattle.pth_model.specs.Acts.{acts_from, handled as handled_by, runs_handler};
-ghost use Rattle.pth_model.specs.State.{State};
-ghost use Rattle.pth_world.specs.Leading.{Leads};
+ghost use Rattle.pth_world.specs.Leading.{LedTo};
 ghost use Rattle.pth_world.specs.Shows.{StandsFor};
 ghost use Rattle.pth_world.specs.Sound.{IsAlive};
 ghost use Rattle.pth_world.specs.Whole.{Whole};
@@ -30,8 +28,7 @@ fn make_acts<P: Program>(
     requires whole { Whole w.old }
     requires alive { IsAlive w.old.threads t.0 }
     requires index { index ≤ 64 }
-    ensures ok { OnOk result ((s : State P P.State P.Shared) → StandsFor w.old s → Leads w.new marks.old marks.new (acts_from P.functions t.0 h arg (65 - index) index s)) }
-    ensures err { OnErr result ((s : State P P.State P.Shared) → StandsFor w.old s → IsCut marks.old marks.new (acts_from P.functions t.0 h arg (65 - index) index s).marks) }
+    ensures goes { LedTo (StandsFor w.old) (acts_from P.functions t.0 h arg (65 - index) index) w.new marks.old marks.new result }
     ensures handled { OnOk result (IsHandled w.old w.new) }
 {
     let Some(act) = w.act(h, arg, index) else {
@@ -52,8 +49,7 @@ pub fn run_handler<P: Program>(
 ) -> Result<(), OutOfMemory>
     requires whole { Whole w.old }
     requires alive { IsAlive w.old.threads t.0 }
-    ensures ok { OnOk result ((s : State P P.State P.Shared) → StandsFor w.old s → Leads w.new marks.old marks.new (handled_by P.functions t.0 h arg s)) }
-    ensures err { OnErr result ((s : State P P.State P.Shared) → StandsFor w.old s → IsCut marks.old marks.new (handled_by P.functions t.0 h arg s).marks) }
+    ensures goes { LedTo (StandsFor w.old) (handled_by P.functions t.0 h arg) w.new marks.old marks.new result }
     ensures handled { OnOk result (IsHandled w.old w.new) }
 {
     make_acts(w, t, h, arg, 0, marks)
@@ -70,8 +66,7 @@ pub fn run_told_handler<P: Program>(
 ) -> Result<(), OutOfMemory>
     requires whole { Whole w.old }
     requires alive { IsAlive w.old.threads t.0 }
-    ensures ok { OnOk result ((s : State P P.State P.Shared) → StandsFor w.old s → Leads w.new marks.old marks.new (runs_handler P.functions t.0 h arg s)) }
-    ensures err { OnErr result ((s : State P P.State P.Shared) → StandsFor w.old s → IsCut marks.old marks.new (runs_handler P.functions t.0 h arg s).marks) }
+    ensures goes { LedTo (StandsFor w.old) (runs_handler P.functions t.0 h arg) w.new marks.old marks.new result }
     ensures handled { OnOk result (IsHandled w.old w.new) }
 {
     marks.push(Mark::Handler {

@@ -3,7 +3,7 @@
 ghost use Rattle.std.specs.Prelude.{◌≡◌, IfOk};
 ghost use Rattle.pth_end.specs.Saying.{SaysRefusal};
 ghost use Rattle.pth_model.specs.declared.verdict.Verdict.TheVariants.{Says};
-ghost use Rattle.pth_model.specs.Verdict.{by_result, done as with_nothing};
+ghost use Rattle.pth_model.specs.Verdict.{by_result, done};
 
 use pth_base::answer::Answer;
 use pth_base::errno::Errno;
@@ -21,8 +21,8 @@ pub fn refused(refusal: Refusal) -> Result<Answer, OutOfMemory>
 }
 
 /// The answer of a call that has nothing to say.
-pub fn done(outcome: Result<(), Errno>) -> Answer
-    ensures { by_result with_nothing outcome ≡ Says result }
+pub fn answer_of(outcome: Result<(), Errno>) -> Answer
+    ensures { by_result done outcome ≡ Says result }
 {
     match outcome {
         Ok(()) => Answer::Int(1),

@@ -1,13 +1,12 @@
 //! How the wait of a thread is undone as the thread ends.
 
-ghost use Rattle.std.specs.Prelude.{◌≡◌, false, OnOk, OnErr};
-ghost use Rattle.pth_base.specs.Cut.{IsCut};
+ghost use Rattle.std.specs.Prelude.{◌≡◌, false, OnOk};
 ghost use Rattle.pth_model.specs.Barriers.{withdraws, withdraws_from};
 ghost use Rattle.pth_model.specs.Conditions.{hands_on_seat, hands_on_seats};
 ghost use Rattle.pth_model.specs.Ending.{undoes_wait};
 ghost use Rattle.pth_model.specs.State.{Control, State};
 ghost use Rattle.pth_world.specs.Frame.{Frame};
-ghost use Rattle.pth_world.specs.Leading.{Leads};
+ghost use Rattle.pth_world.specs.Leading.{LedTo};
 ghost use Rattle.pth_world.specs.Numbering.{no_numbers};
 ghost use Rattle.pth_world.specs.Shows.{Shows, StandsFor};
 ghost use Rattle.pth_world.specs.Sound.{IsAlive};
@@ -29,8 +28,7 @@ fn withdraw<P: Program>(
     b: i64,
     marks: &mut Marks,
 ) -> Result<(), OutOfMemory>
-    ensures ok { OnOk result ((s : State P P.State P.Shared) → StandsFor w.old s → Leads w.new marks.old marks.new (withdraws t.0 b s)) }
-    ensures err { OnErr result ((s : State P P.State P.Shared) → StandsFor w.old s → IsCut marks.old marks.new (withdraws t.0 b s).marks) }
+    ensures goes { LedTo (StandsFor w.old) (withdraws t.0 b) w.new marks.old marks.new result }
     ensures same { w.new ≡ record w.old { barriers = w.new.barriers } }
 {
     match w.barriers_mut().withdraw(b, t) {
@@ -46,8 +44,7 @@ fn withdraw_awaited<P: Program>(
     awaits: Awaits,
     marks: &mut Marks,
 ) -> Result<(), OutOfMemory>
-    ensures ok { OnOk result ((s : State P P.State P.Shared) → StandsFor w.old s → Leads w.new marks.old marks.new (withdraws_from t.0 awaits s)) }
-    ensures err { OnErr result ((s : State P P.State P.Shared) → StandsFor w.old s → IsCut marks.old marks.new (withdraws_from t.0 awaits s).marks) }
+    ensures goes { LedTo (StandsFor w.old) (withdraws_from t.0 awaits) w.new marks.old marks.new result }
     ensures same { w.new ≡ record w.old { barriers = w.new.barriers } }
 {
     match awaits {
@@ -86,8 +83,7 @@ pub(crate) fn undo_wait<P: Program>(
 ) -> Result<(), OutOfMemory>
     requires whole { Whole w.old }
     requires alive { IsAlive w.old.threads t.0 }
-    ensures ok { OnOk result ((s : State P P.State P.Shared) → StandsFor w.old s → Leads w.new marks.old marks.new (undoes_wait t.0 s)) }
-    ensures err { OnErr result ((s : State P P.State P.Shared) → StandsFor w.old s → IsCut marks.old marks.new (undoes_wait t.0 s).marks) }
+    ensures goes { LedTo (StandsFor w.old) (undoes_wait t.0) w.new marks.old marks.new result }
     ensures frame { OnOk result (Frame w.old w.new no_numbers w.old.scheduler.running false) }
     ensures records { OnOk result (w.new.threads.records ≡ w.old.threads.records) }
 {

@@ -1,5 +1,6 @@
 -- Steps that are mild leave a world calm.
-use Rattle.std.proofs.Common.{◌≡◌, ◌∙◌, ℕ, ◌<◌, ◌||◌, ◌&&◌, is_some, Bool, true, false, if◌then◌else◌, List, Option, Some, None, IsSome, IfSome, refl, sym, ap, subst, arith, ◌⊎◌, inl, inr}
+use Rattle.std.proofs.Common.{◌≡◌, ◌∙◌, ℕ, ◌<◌, ◌||◌, ◌&&◌, is_some, Bool, true, false, if◌then◌else◌, List, Option, Some, None, IsSome, IfSome, refl, sym, ap, subst, arith, inl, inr}
+use Rattle.std.proofs.lemmas.Bool.{and_parts, or_cases}
 use Rattle.pth_model.specs.Awaits.{is_awaiting}
 use Rattle.pth_base.specs.Program.{Functions}
 use Rattle.pth_base.specs.declared.call.Call.{Call}
@@ -28,14 +29,6 @@ use Rattle.pth_sched.proofs.Calming.{IsMild, mild_then}
 use Rattle.pth_sched.proofs.CalmWorlds.{calm_rightly, mild_calms}
 use Rattle.pth_sched.proofs.Mildness.{begins_mild, is_mild_begun, owes_mild, goes_on_mild, stepping_mild}
 
-both : (a b : Bool) → (a && b) ≡ true → (a ≡ true) × (b ≡ true)
-both true b h = (refl, h)
-both false b h = absurd (cc h)
-
-either : (a b : Bool) → (a || b) ≡ true → (a ≡ true) ⊎ (b ≡ true)
-either true b h = inl refl
-either false b h = inr h
-
 module _ {P S H : Type 0} where
   -- the call that blocks the thread that runs is one that may
   runner_may : (w : WorldOf P S H) (s : State P S H) (t : ℕ) → Whole w → StandsFor w s → w.scheduler.running ≡ Some t → IfSome (blocked_of s.control t) (λ b. MayBlock t b)
@@ -58,9 +51,9 @@ module _ {P S H : Type 0} where
 
     -- a call begins
     begun_by_test : (r : State P S H) (call : Call) (n : Next) → n ≡ (begun f t call r).next → (is_mild call || (waits_mildly r.control.kernel call && is_waiting n)) ≡ true → IsMild t r (begun f t call r).told.state
-    begun_by_test r call n next test = elim (either (is_mild call) (waits_mildly r.control.kernel call && is_waiting n) test) [
+    begun_by_test r call n next test = elim (or_cases (is_mild call) (waits_mildly r.control.kernel call && is_waiting n) test) [
       | inl mild ↦ is_mild_begun t f r call mild
-      | inr waits ↦ (let a = both (waits_mildly r.control.kernel call) (is_waiting n) waits in begins_mild t f r call a.0 (subst (λ (x : Next). is_waiting x ≡ true) next a.1))
+      | inr waits ↦ (let a = and_parts (waits_mildly r.control.kernel call) (is_waiting n) waits in begins_mild t f r call a.0 (subst (λ (x : Next). is_waiting x ≡ true) next a.1))
     ]
 
     module _ (u : WorldOf P S H) (call : Call) (n : Next) (old new : List Mark) (stored : u.store ≡ w.store)
@@ -87,7 +80,7 @@ module _ {P S H : Type 0} where
 
       pub gone_on_calms : (patient && is_waiting n) ≡ true → IsCalmUntil v until
       gone_on_calms test =
-          let a = both patient (is_waiting n) test in
+          let a = and_parts patient (is_waiting n) test in
           mild_calms w until calm v t (gone_on f t s).told.state runs (leads s (calm.stands, refl)).stands
           (gone_on_by_test (blocked_of s.control t) refl (runner_may w s t whole calm.stands runs) (ap (λ (k : Kernel). is_patient k (blocked_of s.control t)) calm.stands.control.kernel ∙ sym (is s.control calm.stands.control) ∙ a.0) (subst (λ (x : Next). is_waiting x ≡ true) (next s (calm.stands, refl)) a.1))
 

@@ -28,7 +28,7 @@ use Rattle.pth_world.specs.StateOf.{state_of}
 use Rattle.pth_world.proofs.StateOf.{stands_for_state}
 use Rattle.pth_world.proofs.Telling.{has_still}
 use Rattle.pth_waits.specs.Dormant.{IsDormant}
-use Rattle.pth_sched.specs.Calm.{IsCalmUntil, IsCalmButUntil, Calms, AreDormant, is_among_waiting}
+use Rattle.pth_sched.specs.Calm.{IsCalmUntil, IsCalmButUntil, AreDormant, is_among_waiting}
 use Rattle.pth_waits.proofs.Standing.{none_died}
 use Rattle.pth_waits.proofs.Dormancy.{dormant_kept, dormant_sooner, equal_pending, equal_seats, later_than_now}
 use Rattle.pth_sched.proofs.Calming.{IsMild, mild_calm, readied_calm, readied_nobody, dispatched_calm, turn_over_calm}
@@ -163,10 +163,6 @@ unfolding seen
 gone_waits w k t sh none waits =
     let is = ap (λ (f : ℕ → Option Entry). f t) sh.threads.known ∙ ap (λ (o : Option ℕ). by_slot None (entry_at w.threads.records) o) none in
     cc (sym (ap (λ (o : Option Entry). is_among_waiting o) is) ∙ waits)
-
--- of moment 0 nothing is said
-pub calms_nothing : {P S H : Type 0} (w : WorldOf P S H) (until : ℕ) → until ≡ 0 → Calms w until
-calms_nothing w until none some = absurd (omega (arith, none))
 
 pub own_by : (t : ℕ) (o : Option ℕ) → IfSome o (λ r. r ≡ t) → (r : ℕ) → o ≡ Some r → r ≡ t
 own_by t None own r is = absurd (cc is)

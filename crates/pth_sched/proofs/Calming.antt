@@ -80,11 +80,6 @@ not_waiting state.Waiting runs (Some e) = elim runs [ ]
 not_waiting state.New runs (Some e) = elim runs [ ]
 not_waiting state.Dead runs (Some e) = elim runs [ ]
 
-dispatched_waits : (n : ℕ) (o : Option Entry) → is_among_waiting (option_map (changed (change.Dispatches n)) o) ≡ is_among_waiting o
-unfolding changed
-dispatched_waits n None = refl
-dispatched_waits n (Some e) = refl
-
 -- ---- calm
 
 module _ {P S H : Type 0} where

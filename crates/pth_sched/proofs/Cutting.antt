@@ -1,6 +1,6 @@
 -- A run that is cut, and one that is not.
-use Rattle.std.proofs.Common.{◌≡◌, ◌≢◌, ◌⊎◌, ℕ, ◌+◌, ◌≤◌, List, ◌++◌, Bool, true, false, refl, sym, ap, ◌∙◌, arith, subst, inl, inr}
-use Rattle.std.proofs.lemmas.Bool.{cases_lt}
+use Rattle.std.proofs.Common.{◌≡◌, ◌≢◌, ◌⊎◌, ℕ, ◌+◌, ◌≤◌, List, ◌++◌, Bool, true, refl, sym, ap, ◌∙◌, arith, subst, inl, inr}
+use Rattle.std.proofs.lemmas.Bool.{cases_lt, true≢false}
 use Rattle.std.proofs.lemmas.List.{append_cancel_left, append_assoc}
 use Rattle.pth_base.specs.Program.{Functions}
 use Rattle.pth_base.specs.declared.mark.Mark.{Mark}
@@ -28,9 +28,6 @@ is_running Killed = inr (λ h. cc h)
 is_running Stalled = inr (λ h. cc h)
 is_running OutOfMemory = inr (λ h. cc h)
 
-true_false : true ≡ false → ⊥
-true_false h = cc
-
 module _ {P S H : Type 0} where
   -- an outcome stops a run to any number of steps
   stops_any : (to : ℕ) (c : Course P S H) → c.turn.outcome ≢ Running → stops to c ≡ true
@@ -40,7 +37,7 @@ module _ {P S H : Type 0} where
   module _ (f : P → Functions S H) (g : Given P) where
     stays_at : (to j k : ℕ) → stops to (run f g j) ≡ true → GoesTo f g to j k → k ≡ j
     stays_at to j k halt b = elim (cases_lt j k) [
-      | inl low ↦ absurd (true_false (sym halt ∙ b.first j (omega arith) low))
+      | inl low ↦ absurd (true≢false (sym halt ∙ b.first j (omega arith) low))
       | inr high ↦ (let l = b.later in omega arith)
     ]
 

@@ -80,19 +80,16 @@ module _ {P S H : Type 0} (f : P → Functions S H) (g : Given P) (halts : ℕ �
       → ((c : Course P S H) → Stands m c → AllAwaitRightly c.state → IsCut mid new (part f c.turn c.state).marks) → BreaksOffBefore f g halts i old new
   reach-cut m old mid new r on lives cuts =
       let here = run f g r.part in
-      let c = cuts here r.stands (await_rightly r.part lives) in
+      let tells = (part f here.turn here.state).marks in
       record {
-        part = r.part + 1;
-        later = omega (arith, r.later);
-        going = none-more halts i r.part r.going on;
-        told = r.told ++ (part f here.turn here.state).marks;
-        between = between-more f g i r.part r.told r.between;
-        cut = record {
-          first = r.told ++ c.first;
-          rest = c.rest;
-          new_is = c.new_is ∙ ap (λ (x : List Mark). x ++ c.first) r.appended ∙ append_assoc old r.told c.first;
-          whole_is = append_assoc r.told c.first c.rest ∙ ap (λ (x : List Mark). r.told ++ x) c.whole_is;
-        };
+        part = r.part;
+        later = r.later;
+        going = λ k from upto. none-more halts i r.part r.going on k from (omega (arith, upto));
+        told = r.told;
+        between = r.between;
+        rest = tells;
+        within = between-more f g r.part r.part [] (between-none f g r.part);
+        cut = subst (λ (x : List Mark). IsCut x new tells) r.appended (cuts here r.stands (await_rightly r.part lives));
       }
 
 -- the part that comes next is made

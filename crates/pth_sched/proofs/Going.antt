@@ -1,5 +1,5 @@
 -- What holds of a machine between two parts, through the parts of a turn; and who is named by a yield.
-use Rattle.std.proofs.Common.{◌≡◌, ℕ, ◌+◌, ◌≤◌, Bool, true, false, Result, Ok, Err, OnOk, List, [], Option, Some, None, IsSome, IfSome, option_map, length, inl, inr, refl, sym, ◌∙◌, ap, subst, arith}
+use Rattle.std.proofs.Common.{◌≡◌, ℕ, ◌+◌, ◌≤◌, Bool, true, false, List, [], Option, Some, None, IsSome, IfSome, option_map, length, inl, inr, refl, sym, ◌∙◌, ap, subst, arith}
 use Rattle.std.specs.Option.{option_or}
 use Rattle.pth_base.specs.declared.ids.Tid.{Tid}
 use Rattle.pth_queue.specs.declared.queue.Queue.{Queue}
@@ -115,11 +115,6 @@ gives_own t next.Killed x none = subst (λ (o : Option ℕ). IfSome o (λ g. IfS
 if_always : (o : Option ℕ) (Q : Type 0) → Q → IfSome o (λ t. Q)
 if_always (Some t) Q q = q
 if_always None Q q = tt
-
--- four facts of a call that went well
-pub on_ok_four : {A E : Type 0} {W X Y Z Q : Type 0} (r : Result A E) → OnOk r W → OnOk r X → OnOk r Y → OnOk r Z → (W → X → Y → Z → Q) → OnOk r Q
-on_ok_four (Ok v) w x y z f = f w x y z
-on_ok_four (Err e) w x y z f = tt
 
 -- ---- the parts of a turn
 

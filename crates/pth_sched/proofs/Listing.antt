@@ -1,6 +1,7 @@
 -- The waiting threads are gone over: the events of their rings are looked at, and those that are to wake are listed.
-use Rattle.std.proofs.Common.{◌≡◌, ◌∙◌, ℕ, Bool, true, false, cond, ◌||◌, if◌then◌else◌, List, [], ◌∷◌, ◌++◌, filter, flat_map, Option, Some, None, option_map, refl, sym, ap, ap₂, subst, append_assoc, append-nil}
+use Rattle.std.proofs.Common.{◌≡◌, ◌∙◌, ℕ, Bool, true, false, ◌||◌, if◌then◌else◌, List, [], ◌∷◌, ◌++◌, filter, flat_map, Option, Some, None, option_map, refl, sym, ap, ap₂, subst, append_assoc, append-nil}
 use Rattle.std.specs.List.{list_any}
+use Rattle.std.proofs.lemmas.List.Elements.{filter-append}
 use mathlib.Core.Path.{fun_ext}
 use Rattle.pth_base.specs.Program.{Functions}
 use Rattle.pth_ring.specs.declared.event.Event.{Event}
@@ -27,14 +28,6 @@ use Rattle.pth_world.proofs.Events.{events_show}
 use Rattle.pth_world.proofs.Telling.{has_still}
 
 -- ---- lists
-
-kept : {A : Type 0} (p : A → Bool) (xs ys : List A) → filter p (xs ++ ys) ≡ filter p xs ++ filter p ys
-kept p [] ys = refl
-kept p (x ∷ xs) ys = by_test (p x) (kept p xs ys)
-  where
-    by_test : (b : Bool) → filter p (xs ++ ys) ≡ filter p xs ++ filter p ys → cond b (x ∷ filter p (xs ++ ys)) (filter p (xs ++ ys)) ≡ cond b (x ∷ filter p xs) (filter p xs) ++ filter p ys
-    by_test true h = ap (λ l. x ∷ l) h
-    by_test false h = h
 
 flat_more : {A B : Type 0} (g : A → List B) (xs : List A) (x : A) → flat_map g (xs ++ x ∷ []) ≡ flat_map g xs ++ g x
 flat_more g [] x = append-nil (g x)
@@ -130,7 +123,7 @@ module _ {P S H : Type 0} (f : P → Functions S H) (old : WorldOf P S H) where
       listed = λ s st.
           is (after_looks f s (events s.control)) (stands_seen s st)
           ∙ ap₂ (λ (l : List ℕ) (b : Bool). l ++ (if b then t ∷ [] else [])) (so_far.listed s st) (to_wake_still f s (events s.control) t)
-          ∙ sym (kept (is_to_wake f s) so_far.done (t ∷ []));
+          ∙ sym (filter-append (is_to_wake f s) so_far.done (t ∷ []));
       made = made ∙ so_far.made;
       same = same ∙ ap (λ (w : WorldOf P S H). record w { events = x.events }) so_far.same;
     }

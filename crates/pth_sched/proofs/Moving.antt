@@ -22,9 +22,9 @@ use Rattle.pth_world.specs.Shows.{Shows}
 use Rattle.pth_world.specs.Leading.{Leads}
 use Rattle.pth_world.specs.Numbering.{GivesNone, made}
 use Rattle.pth_world.specs.Ranks.{KeepsRanks}
-use Rattle.pth_world.specs.Touches.{KeepsRest}
 use Rattle.pth_world.specs.Whole.{Whole, WaitsToRun}
 use Rattle.pth_sched.specs.MachineOf.{MachineOf}
+use Rattle.pth_sched.specs.Passing.{OnlyWakes}
 use Rattle.pth_sched.specs.Running.{Stands, Makes, Keeps}
 use Rattle.pth_sched.proofs.Going.{still_going}
 use Rattle.pth_sched.proofs.Keeping.{gives_rest}
@@ -48,13 +48,14 @@ module _ {P S H : Type 0} where
       tells = leads.tells;
     }
 
-    pub pass_keeps : {A E : Type 0} (r : Result A E) → Keeps m → v.turn ≡ m.turn → OnOk r (Whole v.world) → OnOk r (KeepsRest m.world v.world) → OnOk r (v.world.threads.records.made ≡ m.world.threads.records.made) → OnOk r (KeepsRanks 0 m.world.threads v.world.threads) → OnOk r ((u : ℕ) → WaitsToRun m.world.threads u → WaitsToRun v.world.threads u) → OnOk r (Keeps v)
-    pass_keeps (Err e) keeps turn whole rest made ranks stays = tt
-    pass_keeps (Ok a) keeps turn whole rest made ranks stays =
+    pub pass_keeps : {A E : Type 0} (r : Result A E) → Keeps m → v.turn ≡ m.turn → OnOk r (OnlyWakes m.world v.world) → OnOk r (Keeps v)
+    pass_keeps (Err e) keeps turn wakes = tt
+    pass_keeps (Ok a) keeps turn wakes =
+        let rest = wakes.rest in
         let running = ap (λ (k : Scheduler). k.running) rest.scheduler in
         record {
-          going = still_going m v keeps.going whole running (ap (λ (k : Scheduler). k.preferred) rest.scheduler) (gives_rest m.world v.world rest made) stays turn;
-          ranks = still_roofed m v keeps.ranks ranks running turn;
+          going = still_going m v keeps.going wakes.whole running (ap (λ (k : Scheduler). k.preferred) rest.scheduler) (gives_rest m.world v.world rest wakes.made) wakes.stays turn;
+          ranks = still_roofed m v keeps.ranks wakes.ranks running turn;
         }
 
     -- it is later, and nothing else has changed

@@ -15,7 +15,6 @@ use Rattle.pth_world.specs.World.{WorldOf}
 use Rattle.pth_world.specs.Shows.{StandsFor}
 use Rattle.pth_world.specs.Ranks.{IsUnder, greatest_return, KeepsRanks}
 use Rattle.pth_sched.specs.MachineOf.{MachineOf, IsGoing, IsRoofed, open_by}
-use Rattle.pth_sched.specs.Passing.{HasRoom}
 
 open_most : (g r : Option ℕ) → open_by g r ≤ 1
 open_most None None = omega arith
@@ -42,9 +41,6 @@ module _ {P S H : Type 0} (m : MachineOf P S H) where
       let n : r.roof + length m.world.threads.queues.new ≤ 2000000023 = omega arith in
       let top : 2000000023 < 2 ^ 40 = omega arith in
       omega arith
-
-  pub has_room : IsGoing m → IsRoofed m → m.turn.steps ≤ most_steps → HasRoom m.world.threads.queues
-  has_room going r few = record { roof = r.roof; low = r.low; under = r.under; few = (let low = roof_low going r few in omega arith) }
 
   -- so every ready thread may rise
   pub ready_rises : IsGoing m → IsRoofed m → m.turn.steps ≤ most_steps → CanRise m.world.threads.queues.ready

@@ -1,7 +1,7 @@
 -- How time goes on.
 use Rattle.std.proofs.Common.{◌≡◌, ℕ, ◌+◌, ◌-◌, ◌<◌, ◌≤◌, ◌&&◌, min, nat_lt, nat_le, ℤ, Bool, true, false, if◌then◌else◌, List, [], ◌∷◌, ◌++◌, Option, Some, None, IfSome, ◌∙◌, refl, sym, arith, subst}
-use Rattle.std.proofs.lemmas.Bool.Decides.{nat_tests}
 use Rattle.std.proofs.lemmas.Option.{IfSome_then}
+use Rattle.std.proofs.lemmas.Bool.{ltb-true, leb-true, and_parts}
 use Rattle.pth_base.specs.Limits.{last_moment}
 use Rattle.pth_base.specs.Program.{Functions}
 use Rattle.pth_queue.specs.declared.queue.Queue.{Queue}
@@ -35,18 +35,8 @@ pub record IsLater (now m : ℕ) : Type 0 where
   pub after : now < m
   pub within : m ≤ last_moment
 
-both : (a b : Bool) → (a && b) ≡ true → (a ≡ true) × (b ≡ true)
-both true b h = (refl, h)
-both false b h = absurd (cc h)
-
-lower : (n m : ℕ) → nat_lt n m ≡ true → n < m
-lower n m h = grind (arith, nat_tests)
-
-at_most : (n m : ℕ) → nat_le n m ≡ true → n ≤ m
-at_most n m h = grind (arith, nat_tests)
-
 tested_later : (now m : ℕ) → (nat_lt now m && nat_le m last_moment) ≡ true → IsLater now m
-tested_later now m h = (let b = both (nat_lt now m) (nat_le m last_moment) h in record { after = lower now m b.0; within = at_most m last_moment b.1 })
+tested_later now m h = (let b = and_parts (nat_lt now m) (nat_le m last_moment) h in record { after = ltb-true now m b.0; within = leb-true m last_moment b.1 })
 
 min_later : (now m n last : ℕ) → now < m → m ≤ last → now < n → n ≤ last → (now < min m n) × (min m n ≤ last)
 min_later now m n last a b c d = (omega arith, omega arith)
@@ -101,12 +91,6 @@ time_still now clock = no_more_left now clock last_moment
 -- ---- the parts of a run
 
 module _ {P S H : Type 0} where
-  -- new threads become ready in no time
-  pub readied_scheduler : (ts : List ℕ) (k : Control P S H) → (readies_all ts k).scheduler ≡ k.scheduler
-  unfolding readies_all readies is_ready_at enters sets leaves_queue
-  readied_scheduler [] k = refl
-  readied_scheduler (t ∷ ts) k = readied_scheduler ts (readies t k)
-
   pub readied_kernel : (ts : List ℕ) (k : Control P S H) → (readies_all ts k).kernel ≡ k.kernel
   unfolding readies_all readies is_ready_at enters sets leaves_queue
   readied_kernel [] k = refl

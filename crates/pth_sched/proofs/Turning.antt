@@ -1,7 +1,7 @@
 -- How a machine follows a run to the end of a turn.
-use Rattle.std.proofs.Common.{◌≡◌, ◌≢◌, ℕ, zero, suc, ◌+◌, ◌-◌, ◌≤◌, ◌&&◌, ◌||◌, List, Bool, true, false, nat_lt, nat_le, Option, Some, None, IsSome, refl, sym, ap, ◌∙◌, arith, subst, add-zero, add-one, inl, inr}
+use Rattle.std.proofs.Common.{◌≡◌, ◌≢◌, ℕ, zero, suc, ◌+◌, ◌-◌, ◌≤◌, ◌&&◌, ◌||◌, List, Bool, true, false, nat_lt, nat_le, Option, Some, None, refl, sym, ap, ◌∙◌, arith, subst, add-zero, add-one, inl, inr}
 use Rattle.pth_world.specs.Leading.{AllAwaitRightly}
-use Rattle.std.proofs.lemmas.Bool.{cases_lt, lt-ltb, le-ltb}
+use Rattle.std.proofs.lemmas.Bool.{cases_lt, lt-ltb, le-ltb, true≢false, or_left, or_from, or_right, and_right}
 use Rattle.std.proofs.lemmas.Bool.Decides.{nat_tests}
 use Rattle.pth_base.specs.Cut.{IsCut}
 use Rattle.pth_base.specs.Program.{Functions}
@@ -16,8 +16,8 @@ use Rattle.pth_model.specs.Run.{run, stops, stops_at, stops_by, closed, is_close
 use Rattle.pth_model.specs.Transition.{controlled}
 use Rattle.pth_model.proofs.Runs.{parts-more, goes-first}
 use Rattle.pth_queue.specs.declared.queue.Queue.TheVariants as queues
-use Rattle.pth_sched.specs.MachineOf.{MachineOf, machine_stops, machine_stops_by}
-use Rattle.pth_sched.specs.Running.{Stands, StandsAt, Makes, GoesOn, TurnGoesOn, TurnBreaksOff, IsAtStep}
+use Rattle.pth_sched.specs.MachineOf.{MachineOf, machine_stops}
+use Rattle.pth_sched.specs.Running.{Stands, StandsAt, Makes, GoesOn, TurnGoesOn, TurnBreaksOff}
 use Rattle.pth_sched.proofs.Cutting.{is_running, follows_then}
 use Rattle.pth_sched.proofs.Following.{Reaches, reach-none, reach-more, reach-stop, reach-cut, lives_on}
 use Rattle.pth_sched.proofs.Keeping.{stops_ended}
@@ -25,33 +25,13 @@ use Rattle.pth_sched.proofs.Parts.{part_close, makes_as, cut_as}
 use Rattle.pth_sched.proofs.Showing.{stops_is}
 use Rattle.pth_sched.proofs.Stopping.{run_stops, stepped_steps}
 
-true_false : true ≡ false → ⊥
-true_false h = cc
-
 -- ---- tests
-
-neither : (a b : Bool) → a ≡ false → b ≡ false → (a || b) ≡ false
-neither a b x y = rw (x, y) refl
-
-one_is : (a b : Bool) → a ≡ true → (a || b) ≡ true
-one_is a b x = rw x refl
-
-either : (a b : Bool) → b ≡ true → (a || b) ≡ true
-either true b y = refl
-either false b y = y
-
-not_both : (a b : Bool) → b ≡ false → (a && b) ≡ false
-not_both true b y = y
-not_both false b y = refl
 
 not_after : (i : ℕ) (b : Bool) → (nat_lt i i && b) ≡ false
 not_after i b = (let e : nat_lt i i ≡ false = le-ltb i i (omega arith) in rw e refl)
 
 after : (i k : ℕ) (b : Bool) → i ≤ k → b ≡ true → (nat_lt i (k + 1) && b) ≡ true
 after i k b later is = (let e : nat_lt i (k + 1) ≡ true = lt-ltb i (k + 1) (omega arith) in rw (e, is) refl)
-
-all_made : (to n : ℕ) → n ≤ to → nat_le to n ≡ true → n ≡ to
-all_made to n le h = grind (arith, nat_tests)
 
 -- ---- which part closes a turn
 
@@ -69,17 +49,8 @@ module _ {P S H : Type 0} where
   pub running_on : (to : ℕ) (m : MachineOf P S H) → machine_stops to m ≡ false → m.turn.outcome ≡ Running
   running_on to m on = elim (is_running m.turn.outcome) [
     | inl runs ↦ runs
-    | inr ended ↦ absurd (true_false (sym (stops_ended to m ended) ∙ on))
+    | inr ended ↦ absurd (true≢false (sym (stops_ended to m ended) ∙ on))
   ]
-
-  -- and one that stops without an outcome has made its steps
-  pub steps_made : (to : ℕ) (m : MachineOf P S H) → machine_stops to m ≡ true → m.turn.outcome ≡ Running → m.turn.steps ≤ to → (m.turn.steps ≡ to) × IsAtStep m
-  steps_made to m halt goes le = by_cases m.turn.gave m.world.scheduler.running refl refl (subst (λ (o : Outcome). machine_stops_by to m.turn.steps m.turn.gave m.world.scheduler.running o ≡ true) goes halt)
-    where
-      by_cases : (g r : Option ℕ) → m.turn.gave ≡ g → m.world.scheduler.running ≡ r → machine_stops_by to m.turn.steps g r Running ≡ true → (m.turn.steps ≡ to) × IsAtStep m
-      by_cases (Some t) r gave runs h = absurd (true_false (sym h))
-      by_cases None None gave runs h = absurd (true_false (sym h))
-      by_cases None (Some t) gave runs h = (all_made to m.turn.steps le h, record { goes = goes; gave = gave; runs = subst (λ (o : Option ℕ). IsSome o) (sym runs) refl })
 
   module _ (m : MachineOf P S H) (c : Course P S H) (st : Stands m c) where
     goes_open : m.turn.gave ≡ None → is_close (next_part c.state c.turn) ≡ false
@@ -112,11 +83,11 @@ module _ {P S H : Type 0} (f : P → Functions S H) (g : Given P) (to i : ℕ) w
   pub turn-stop : (m : MachineOf P S H) (old new : List Mark) → Turns m old new → machine_stops to m ≡ true → TurnGoesOn f g to i m old new
   turn-stop m old new r halt =
       let at = run f g r.reached.part in
-      reach-stop f g (stops_or_closed f g to i) i m old new r.reached (one_is (stops to at) _ (sym (stops_is to m at r.reached.stands) ∙ halt))
+      reach-stop f g (stops_or_closed f g to i) i m old new r.reached (or_left (stops to at) _ (sym (stops_is to m at r.reached.stands) ∙ halt))
 
   module _ (m : MachineOf P S H) (old mid : List Mark) (r : Turns m old mid) (on : machine_stops to m ≡ false) where
     goes_on : stops_or_closed f g to i r.reached.part ≡ false
-    goes_on = (let at = run f g r.reached.part in neither (stops to at) _ (sym (stops_is to m at r.reached.stands) ∙ on) r.unclosed)
+    goes_on = (let at = run f g r.reached.part in or_from (stops to at) _ (sym (stops_is to m at r.reached.stands) ∙ on) r.unclosed)
 
     lives : (run f g r.reached.part).turn.outcome ≢ Killed
     lives = lives_on to m (run f g r.reached.part) r.reached.stands on
@@ -132,7 +103,7 @@ module _ {P S H : Type 0} (f : P → Functions S H) (g : Given P) (to i : ℕ) w
         let n = r.reached.part in
         record {
           reached = reach-more f g (stops_or_closed f g to i) i m v old mid new r.reached goes_on lives makes;
-          unclosed = not_both (nat_lt i (n + 1)) (closed f g (n + 1)) (closed-more n ∙ goes_open m (run f g n) r.reached.stands none);
+          unclosed = and_right (nat_lt i (n + 1)) (closed f g (n + 1)) (closed-more n ∙ goes_open m (run f g n) r.reached.stands none);
         }
 
     module _ (t : ℕ) (over : m.turn.gave ≡ Some t) where
@@ -145,7 +116,7 @@ module _ {P S H : Type 0} (f : P → Functions S H) (g : Given P) (to i : ℕ) w
           let is_over = after i n (closed f g (n + 1)) r.reached.later (closed-more n ∙ goes_close m (run f g n) r.reached.stands t goes over) in
           reach-stop f g (stops_or_closed f g to i) i v old new
           (reach-more f g (stops_or_closed f g to i) i m v old mid new r.reached goes_on lives (λ c st right history. makes_as v _ _ (part_close f m c st goes t over) mid new (makes c st)))
-          (either (stops to (run f g (n + 1))) _ is_over)
+          (or_right (stops to (run f g (n + 1))) _ is_over)
 
       -- memory ends in the Close
       pub close-cut : (new : List Mark) → ((c : Course P S H) → Stands m c → IsCut mid new (closes f c.turn t c.state).marks) → TurnBreaksOff f g to i old new
@@ -153,7 +124,7 @@ module _ {P S H : Type 0} (f : P → Functions S H) (g : Given P) (to i : ℕ) w
 
   -- a run comes to the end of a turn, or to where it stops
   pub turn_stops : (j : ℕ) × TurnsTo f g to i j
-  turn_stops = (let s = run_stops f g to i in goes-first (stops_or_closed f g to i) i s.0 s.1.later (one_is (stops to (run f g s.0)) _ s.1.here))
+  turn_stops = (let s = run_stops f g to i in goes-first (stops_or_closed f g to i) i s.0 s.1.later (or_left (stops to (run f g s.0)) _ s.1.here))
 
 -- after an outcome that ended the run a machine stays where it is
 pub turn_stays : {P S H : Type 0} (f : P → Functions S H) (g : Given P) (to i : ℕ) (m : MachineOf P S H) (old : List Mark) → m.turn.outcome ≢ Running → StandsAt f g i m → TurnGoesOn f g to i m old old

@@ -1,5 +1,6 @@
 -- Nobody asks main to end: no call does, and nothing else sets a request. So main is never canceled, and takes no mutex back for that.
 use Rattle.std.proofs.Common.{◌≡◌, ◌≢◌, ℕ, zero, suc, ◌+◌, ◌==◌, Bool, true, false, if◌then◌else◌, ℤ, List, [], ◌∷◌, reverse, Option, Some, None, option_map, refl, sym, ap, subst, ◌∙◌, inl, inr, pos}
+use Rattle.std.proofs.lemmas.Option.{same_Some}
 use Rattle.pth_base.specs.Table.{put}
 use Rattle.pth_model.specs.declared.progress.Progress.{Progress}
 use Rattle.pth_base.specs.Program.{Functions}
@@ -59,16 +60,13 @@ request_asks : (b : Bool) → b ≡ false → AsksNone (change.Request b)
 unfolding changed
 request_asks b none e is = none
 
-some_same : (c d : Change) → Some c ≡ Some d → c ≡ d
-some_same c d h = cc
-
 -- a value that a program sets (pth_attr_set)
 set_asks : (v : AttrValue) (c : Change) → change_of v ≡ Some c → AsksNone c
 unfolding changed
-set_asks (value.Prio n) c h e is = rw (← some_same (change.Prio n) c h) is
-set_asks (value.Name s) c h e is = rw (← some_same (change.Name s) c h) is
-set_asks (value.Joinable n) c h e is = rw (← some_same _ c h) is
-set_asks (value.Cancel n) c h e is = rw (← some_same _ c h) is
+set_asks (value.Prio n) c h e is = rw (← same_Some (change.Prio n) c h) is
+set_asks (value.Name s) c h e is = rw (← same_Some (change.Name s) c h) is
+set_asks (value.Joinable n) c h e is = rw (← same_Some _ c h) is
+set_asks (value.Cancel n) c h e is = rw (← same_Some _ c h) is
 set_asks v c h e is = absurd (cc h)
 
 not_itself : (b : Bool) (u : ℕ) → (b ≡ true → u ≢ main) → main ≡ u → b ≡ false

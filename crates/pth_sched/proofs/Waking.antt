@@ -16,16 +16,21 @@ use Rattle.pth_model.specs.Transition.{Transition, changes, controlled, tid, ◌
 use Rattle.pth_model.specs.Changes.{holders, prio_of}
 use Rattle.pth_model.specs.Pass.{is_ready_at, is_to_wake, looks, woken, all_woken, to_wake, pass}
 use Rattle.pth_model.specs.Resources.{told as told_of}
-use Rattle.pth_world.specs.World.{WorldOf}
+use Rattle.pth_world.specs.World.{WorldOf, ThreadsBySlot}
 use Rattle.pth_world.specs.Shows.{Shows, StandsFor}
 use Rattle.pth_world.specs.Sound.{IsSound, IsKnown}
 use Rattle.pth_world.specs.Touches.{KeepsRest, SameThreads}
 use Rattle.pth_base.specs.Cut.{IsCut}
 use Rattle.pth_world.specs.Leading.{Leads}
+use Rattle.pth_world.specs.Ranks.{KeepsRanks}
+use Rattle.pth_world.specs.Whole.{Whole, WaitsToRun}
+use Rattle.pth_world.proofs.Events.{events_whole}
+use Rattle.pth_world.proofs.Ranks.{ranks_none, ranks_then}
 use Rattle.pth_world.proofs.Telling.{has_still}
 use Rattle.pth_world.proofs.QueueReads.{once_thread, stands_at}
 use Rattle.pth_world.proofs.Walks.{in-readied}
-use Rattle.pth_sched.specs.Passing.{IsWaiting, IsNotIn, WaitOnce}
+use Rattle.pth_sched.specs.Passing.{IsWaiting, IsNotIn, OnlyWakes, WaitOnce}
+use Rattle.pth_sched.proofs.Keeping.{scheduler_first, scheduler_then}
 
 -- ---- one thread
 
@@ -164,7 +169,7 @@ module _ {P S H : Type 0} where
   once_seen w v same (t ∷ ts) once = (subst (λ (x : WorldOf P S H). IsWaiting x t) (sym same) once.0, once.1, once_seen w v same ts once.2)
 
   -- what is seen of events leaves all else
-  pub seen_rest : (w v : WorldOf P S H) → v.events.made ≡ w.events.made → v ≡ record w { events = v.events } → KeepsRest w v
+  seen_rest : (w v : WorldOf P S H) → v.events.made ≡ w.events.made → v ≡ record w { events = v.events } → KeepsRest w v
   seen_rest w v made same = record {
     program = ap (λ (x : WorldOf P S H). x.program) same;
     attributes = ap (λ (x : WorldOf P S H). x.attributes) same;
@@ -175,4 +180,29 @@ module _ {P S H : Type 0} where
     store = ap (λ (x : WorldOf P S H). x.store) same;
     used = ap (λ (x : WorldOf P S H). x.used) same;
     scheduler = ap (λ (x : WorldOf P S H). x.scheduler) same;
+  }
+
+  pub wakes_seen : (w v : WorldOf P S H) → Whole w → v.events.made ≡ w.events.made → v ≡ record w { events = v.events } → OnlyWakes w v
+  wakes_seen w v whole made same =
+      let threads : v.threads ≡ w.threads = ap (λ (x : WorldOf P S H). x.threads) same in
+      record {
+        whole = subst (λ (x : WorldOf P S H). Whole x) (sym same) (events_whole w v.events whole);
+        rest = seen_rest w v made same;
+        made = ap (λ (x : ThreadsBySlot S). x.records.made) threads;
+        ranks = subst (λ (x : ThreadsBySlot S). KeepsRanks 0 w.threads x) (sym threads) (ranks_none w.threads);
+        stays = λ u. subst (λ (x : ThreadsBySlot S). WaitsToRun x u) (sym threads);
+      }
+
+  -- ---- what is kept on the way
+
+  pub wakes_none : (w : WorldOf P S H) → Whole w → OnlyWakes w w
+  wakes_none w whole = record { whole = whole; rest = scheduler_first w; made = refl; ranks = ranks_none w.threads; stays = λ u waits. waits }
+
+  pub wakes_then : (w m v : WorldOf P S H) → OnlyWakes w m → OnlyWakes m v → OnlyWakes w v
+  wakes_then w m v a b = record {
+    whole = b.whole;
+    rest = scheduler_then w m v a.rest b.rest;
+    made = b.made ∙ a.made;
+    ranks = ranks_then 0 w.threads m.threads v.threads a.ranks b.ranks;
+    stays = λ u waits. b.stays u (a.stays u waits);
   }

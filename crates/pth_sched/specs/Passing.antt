@@ -1,11 +1,12 @@
 -- What the parts of a turn need of a world.
-use Rattle.std.specs.Prelude.{◌≢◌, ℕ, ◌+◌, ◌^◌, ◌≤◌, List, [], ◌∷◌, length}
+use Rattle.std.specs.Prelude.{◌≡◌, ◌≢◌, ℕ, ◌+◌, ◌^◌, ◌≤◌, List, [], ◌∷◌, length}
 use Rattle.pth_queue.specs.Queues.{QueuesOf}
 use Rattle.pth_queue.specs.declared.queue.Queue.TheVariants.{Ready, Waiting}
 use Rattle.pth_world.specs.Sound.{IsKnown}
-use Rattle.pth_world.specs.Whole.{IsIn}
+use Rattle.pth_world.specs.Touches.{KeepsRest}
+use Rattle.pth_world.specs.Whole.{IsIn, Whole, WaitsToRun}
 use Rattle.pth_world.specs.World.{WorldOf}
-use Rattle.pth_world.specs.Ranks.{IsUnder, greatest_return}
+use Rattle.pth_world.specs.Ranks.{IsUnder, KeepsRanks, greatest_return}
 
 -- the thread is in the system, and stands in the waiting queue
 abbrev pub IsWaiting : {P S H : Type 0} → WorldOf P S H → ℕ → Type 0
@@ -23,6 +24,15 @@ IsNotIn t (u ∷ us) = (u ≢ t) × IsNotIn t us
 abbrev pub WaitOnce : {P S H : Type 0} → WorldOf P S H → List ℕ → Type 0
 WaitOnce w [] = Unit {0}
 WaitOnce w (t ∷ ts) = IsWaiting w t × IsNotIn t ts × WaitOnce w ts
+
+-- Some threads that waited may be ready now, and nothing else happened: no thread was made or lifted above the others, and whoever waits to
+-- run does so still.
+pub record OnlyWakes {P S H : Type 0} (old new : WorldOf P S H) : Type 0 where
+  pub whole : Whole new
+  pub rest : KeepsRest old new
+  pub made : new.threads.records.made ≡ old.threads.records.made
+  pub ranks : KeepsRanks 0 old.threads new.threads
+  pub stays : (u : ℕ) → WaitsToRun old.threads u → WaitsToRun new.threads u
 
 -- the new threads can become ready one by one, each one rank above all others
 pub record HasRoom (qs : QueuesOf) : Type 0 where

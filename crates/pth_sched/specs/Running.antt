@@ -1,5 +1,5 @@
 -- How a machine follows a run.
-use Rattle.std.specs.Prelude.{◌≡◌, ◌≢◌, ◌+◌, ◌<◌, ◌≤◌, ◌++◌, ℕ, Bool, false, List, None, IsSome}
+use Rattle.std.specs.Prelude.{◌≡◌, ◌≢◌, ◌+◌, ◌≤◌, ◌++◌, ℕ, Bool, false, List, None, IsSome}
 use Rattle.pth_base.specs.Program.{Functions}
 use Rattle.pth_base.specs.declared.mark.Mark.{Mark}
 use Rattle.pth_base.specs.declared.outcome.Outcome.TheVariants.{Running, OutOfMemory}
@@ -43,15 +43,17 @@ pub record FollowsUntil {P S H : Type 0} (f : P → Functions S H) (g : Given P)
   pub between : IsBetween f g i part told
   pub appended : new ≡ old ++ told
 
--- Memory ended on the way from part i: a beginning of what the run tells up to some part was appended, and no part before
--- that one halts.
+-- Memory ended in a part from part i on: neither that part nor one before it halts. What the run tells up to it was appended,
+-- and a beginning of what the part tells.
 pub record BreaksOffBefore {P S H : Type 0} (f : P → Functions S H) (g : Given P) (halts : ℕ → Bool) (i : ℕ) (old new : List Mark) : Type 0 where
   pub part : ℕ
   pub later : i ≤ part
-  pub going : (k : ℕ) → i ≤ k → k < part → halts k ≡ false
+  pub going : (k : ℕ) → i ≤ k → k ≤ part → halts k ≡ false
   pub told : List Mark
   pub between : IsBetween f g i part told
-  pub cut : IsCut old new told
+  pub rest : List Mark
+  pub within : IsBetween f g part (part + 1) rest
+  pub cut : IsCut (old ++ told) new rest
 
 module _ {P S H : Type 0} (f : P → Functions S H) (g : Given P) (to i : ℕ) where
   -- the run to a number of steps goes on to where it stops, or breaks off before

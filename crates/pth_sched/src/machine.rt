@@ -163,6 +163,7 @@ impl<P: Program> Machine<P> {
         ensures none { IfOk result (λ moved. (c : Course P P.State P.Shared) → Stands self.old c → (moved
             ≡ false) ↔ (moment P.functions c.state ≡ None)) }
         ensures stays { IfOk result (λ moved. moved ≡ false → (self.new ≡ self.old) × (marks.new ≡ marks.old)) }
+        ensures wanted { OnErr result ((c : Course P P.State P.Shared) → Stands self.old c → moment P.functions c.state ≢ None) }
         ensures err { OnErr result ((c : Course P P.State P.Shared) → Stands self.old c
             → IsCut marks.old marks.new (moves P.functions c.turn c.state).marks) }
         ensures turn { OnOk result (self.new.turn ≡ self.old.turn) }

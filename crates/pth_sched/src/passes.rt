@@ -1,20 +1,18 @@
 //! Passes over the waiting threads.
 
-ghost use Rattle.std.specs.Prelude.{◌≡◌, ◌≢◌, ◌<◌, ℕ, true, false, pos, neg_ℤ, ◌+ℤ◌, ◌≤ℤ◌, map, Some, OnOk, OnErr};
+ghost use Rattle.std.specs.Prelude.{◌≡◌, ◌≢◌, ◌<◌, ℕ, true, false, pos, neg_ℤ, ◌+ℤ◌, ◌≤ℤ◌, map, Some, OnOk};
 ghost use Rattle.pth_threads.specs.Threads.{number_of};
-ghost use Rattle.pth_base.specs.Cut.{IsCut};
 ghost use Rattle.pth_model.specs.Changes.{entry_of, prio_of};
 ghost use Rattle.pth_model.specs.Pass.{pass, woken, all_woken};
 ghost use Rattle.pth_model.specs.State.{Control, State, now_of};
-ghost use Rattle.pth_world.specs.Leading.{Leads};
-ghost use Rattle.pth_world.specs.Ranks.{KeepsRanks, greatest_return};
+ghost use Rattle.pth_world.specs.Leading.{LedTo};
+ghost use Rattle.pth_world.specs.Ranks.{greatest_return};
 ghost use Rattle.pth_world.specs.Shows.{Shows, StandsFor};
 ghost use Rattle.pth_world.specs.Sound.{IsSound, IsKnown};
-ghost use Rattle.pth_world.specs.Touches.{KeepsRest};
-ghost use Rattle.pth_world.specs.Whole.{Whole, WaitsToRun};
+ghost use Rattle.pth_world.specs.Whole.{Whole};
 ghost use Rattle.pth_waits.specs.Dormant.{IsDormant, after_now};
 ghost use Rattle.pth_sched.specs.Calm.{AreDormant, Calms, CalmsBut, is_among_waiting};
-ghost use Rattle.pth_sched.specs.Passing.{IsWaiting, WaitOnce};
+ghost use Rattle.pth_sched.specs.Passing.{IsWaiting, OnlyWakes, WaitOnce};
 
 use crate::calm::Calm;
 use crate::pass_room::PassRoom;
@@ -46,14 +44,9 @@ fn woken_rank<P: Program>(w: &World<P>, t: Tid) -> i64
 fn wake<P: Program>(w: &mut World<P>, t: Tid, marks: &mut Marks) -> Result<(), OutOfMemory>
     requires whole { Whole w.old }
     requires waits { IsWaiting w.old t.0 }
-    ensures ok { OnOk result ((s : State P P.State P.Shared) → StandsFor w.old s → Leads w.new marks.old marks.new (woken t.0 s)) }
-    ensures err { OnErr result ((s : State P P.State P.Shared) → StandsFor w.old s → IsCut marks.old marks.new (woken t.0 s).marks) }
-    ensures whole { Whole w.new }
-    ensures scheduler { KeepsRest w.old w.new }
-    ensures made { w.new.threads.records.made ≡ w.old.threads.records.made }
+    ensures goes { LedTo (StandsFor w.old) (woken t.0) w.new marks.old marks.new result }
+    ensures only_wakes { OnlyWakes w.old w.new }
     ensures others { (u : ℕ) → u ≢ t.0 → IsWaiting w.old u → IsWaiting w.new u }
-    ensures ranks { KeepsRanks 0 w.old.threads w.new.threads }
-    ensures stays { (u : ℕ) → WaitsToRun w.old.threads u → WaitsToRun w.new.threads u }
 {
     let rank = woken_rank(w, t);
     w.make_ready(t, rank, false);
@@ -68,13 +61,8 @@ fn wake_all<P: Program>(
 ) -> Result<(), OutOfMemory>
     requires whole { Whole w.old }
     requires wait { WaitOnce w.old (map number_of list.now) }
-    ensures ok { OnOk result ((s : State P P.State P.Shared) → StandsFor w.old s → Leads w.new marks.old marks.new (all_woken (map number_of list.now) s)) }
-    ensures err { OnErr result ((s : State P P.State P.Shared) → StandsFor w.old s → IsCut marks.old marks.new (all_woken (map number_of list.now) s).marks) }
-    ensures whole { OnOk result (Whole w.new) }
-    ensures scheduler { OnOk result (KeepsRest w.old w.new) }
-    ensures made { OnOk result (w.new.threads.records.made ≡ w.old.threads.records.made) }
-    ensures ranks { OnOk result (KeepsRanks 0 w.old.threads w.new.threads) }
-    ensures stays { OnOk result ((u : ℕ) → WaitsToRun w.old.threads u → WaitsToRun w.new.threads u) }
+    ensures goes { LedTo (StandsFor w.old) (all_woken (map number_of list.now)) w.new marks.old marks.new result }
+    ensures only_wakes { OnOk result (OnlyWakes w.old w.new) }
 {
     for t in list {
         wake(w, *t, marks)?;
@@ -90,13 +78,8 @@ pub fn pass<P: Program>(
     marks: &mut Marks,
 ) -> Result<(), OutOfMemory>
     requires whole { Whole w.old }
-    ensures ok { OnOk result ((s : State P P.State P.Shared) → StandsFor w.old s → Leads w.new marks.old marks.new (pass P.functions s)) }
-    ensures err { OnErr result ((s : State P P.State P.Shared) → StandsFor w.old s → IsCut marks.old marks.new (pass P.functions s).marks) }
-    ensures whole { OnOk result (Whole w.new) }
-    ensures scheduler { OnOk result (KeepsRest w.old w.new) }
-    ensures made { OnOk result (w.new.threads.records.made ≡ w.old.threads.records.made) }
-    ensures ranks { OnOk result (KeepsRanks 0 w.old.threads w.new.threads) }
-    ensures stays { OnOk result ((u : ℕ) → WaitsToRun w.old.threads u → WaitsToRun w.new.threads u) }
+    ensures goes { LedTo (StandsFor w.old) (pass P.functions) w.new marks.old marks.new result }
+    ensures only_wakes { OnOk result (OnlyWakes w.old w.new) }
 {
     room.go_over(w);
     wake_all(w, room.waking(), marks)
@@ -160,13 +143,8 @@ pub fn pass_unless_calm<P: Program>(
 ) -> Result<(), OutOfMemory>
     requires whole { Whole w.old }
     requires calm { CalmsBut t.0 w.old calm.old.until }
-    ensures ok { OnOk result ((s : State P P.State P.Shared) → StandsFor w.old s → Leads w.new marks.old marks.new (pass P.functions s)) }
-    ensures err { OnErr result ((s : State P P.State P.Shared) → StandsFor w.old s → IsCut marks.old marks.new (pass P.functions s).marks) }
-    ensures whole { OnOk result (Whole w.new) }
-    ensures scheduler { OnOk result (KeepsRest w.old w.new) }
-    ensures made { OnOk result (w.new.threads.records.made ≡ w.old.threads.records.made) }
-    ensures ranks { OnOk result (KeepsRanks 0 w.old.threads w.new.threads) }
-    ensures stays { OnOk result ((u : ℕ) → WaitsToRun w.old.threads u → WaitsToRun w.new.threads u) }
+    ensures goes { LedTo (StandsFor w.old) (pass P.functions) w.new marks.old marks.new result }
+    ensures only_wakes { OnOk result (OnlyWakes w.old w.new) }
     ensures calm { Calms w.new calm.new.until }
 {
     let until = known_until(w, room, *calm, t);

@@ -291,6 +291,7 @@ impl<P: Program> Schedule<P> {
         ensures moves { IfOk result (λ moved. moved ≡ true → (c : Course P P.State P.Shared) → Stands self.old c
             → Makes self.new marks.old marks.new (moves P.functions c.turn c.state)) }
         ensures stays { IfOk result (λ moved. moved ≡ false → (self.new ≡ self.old) × (marks.new ≡ marks.old)) }
+        ensures wanted { OnErr result ((c : Course P P.State P.Shared) → Stands self.old c → is_some (moment P.functions c.state) ≡ true) }
         ensures err { OnErr result ((c : Course P P.State P.Shared) → Stands self.old c
             → IsCut marks.old marks.new (moves P.functions c.turn c.state).marks) }
         ensures keeps { OnOk result (Keeps self.new) }

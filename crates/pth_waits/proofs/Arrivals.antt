@@ -150,19 +150,3 @@ pub pending_says : (live occurs : Bool) → (if not live then Failed else (if oc
 pending_says true true is = absurd (cc is)
 pending_says true false is = (refl, refl)
 pending_says false occurs is = absurd (cc is)
-
--- what is found pending says that none is gone, and none is as it says
-module _ {P S H : Type 0} (s : State P S H) (z : Kernel) (is : s.control.kernel ≡ z) where
-  abbrev at_kernel : Kernel → State P S H
-  at_kernel y = controlled (λ k. record k { kernel = y }) s
-
-  pub fd_says : (e goals : ℕ) (fd : ℤ) → found_unasked s e (of.Fd goals fd) ≡ Pending
-      → (is_fd_live z (fd_named fd) ≡ true) × (((contains goals 0 && is_readable z (fd_named fd)) || (contains goals 1 && is_writeable z (fd_named fd)) || (contains goals 2 && is_exceptional z (fd_named fd))) ≡ false)
-  fd_says e goals fd pending = pending_says _ _ (subst (λ (y : Kernel). found_unasked (at_kernel y) e (of.Fd goals fd) ≡ Pending) is pending)
-
-  pub select_says : (e : ℕ) (r w y : FdSet) → found_unasked s e (of.Select r w y) ≡ Pending → (are_all_live z r.0 w.0 y.0 ≡ true) × (is_any_ready z r.0 w.0 y.0 ≡ false)
-  select_says e r w y pending = pending_says _ _ (subst (λ (q : Kernel). found_unasked (at_kernel q) e (of.Select r w y) ≡ Pending) is pending)
-
-  -- the moment of an event
-  pub time_says : (e at : ℕ) → found_unasked s e (of.Time at) ≡ Pending → z.now < at
-  time_says e at pending = not_come z.now at (pending_says true (nat_le at z.now) (subst (λ (q : Kernel). found_unasked (at_kernel q) e (of.Time at) ≡ Pending) is pending)).1

@@ -120,14 +120,8 @@ abbrev Counted : ℕ → ℕ → Bool
 Counted now m = nat_lt now m && nat_le m last_moment
 
 module _ (now n : ℕ) (later : now ≤ n) (within : n < last_moment + 1) where
-  come_already : (m : ℕ) → m ≤ now → nat_le m n ≡ nat_le m now
-  come_already m h = grind (arith, nat_tests)
-
   come_later : (m : ℕ) → n < m → nat_le m n ≡ nat_le m now
   come_later m h = grind (arith, nat_tests)
-
-  is_counted : (m : ℕ) → Counted now m ≡ true → (now < m) × (m ≤ last_moment)
-  is_counted m h = (grind (arith, nat_tests), grind (arith, nat_tests))
 
   not_counted : (m : ℕ) → Counted now m ≡ false → nat_le m n ≡ nat_le m now
   not_counted m h = grind (arith, nat_tests)

@@ -1,5 +1,5 @@
 -- The events of a ring are looked at, one after another.
-use Rattle.std.proofs.Common.{◌≡◌, ◌≢◌, ◌∙◌, ℕ, ℤ, ◌==◌, ◌<◌, ◌≤◌, ◌&&◌, ◌||◌, not, nat_le, Bool, true, false, if◌then◌else◌, List, [], ◌∷◌, ◌++◌, length, Option, Some, None, option_map, inl, refl, sym, ap, ap₂, subst, arith}
+use Rattle.std.proofs.Common.{◌≡◌, ◌≢◌, ◌∙◌, ℕ, ℤ, ◌==◌, ◌≤◌, ◌&&◌, ◌||◌, not, nat_le, Bool, true, false, if◌then◌else◌, List, [], ◌∷◌, ◌++◌, Option, Some, None, option_map, inl, refl, sym, ap, ap₂, subst, arith}
 use Rattle.std.specs.List.{list_any}
 use Rattle.std.proofs.lemmas.Bool.Decides.{nat_tests}
 use Rattle.std.proofs.lemmas.List.{append_assoc}
@@ -13,7 +13,7 @@ use Rattle.pth_base.proofs.Tables.{put_here, put_is, put_other, same_self, not_s
 use Rattle.pth_numbered.specs.Numbered.{number_at}
 use Rattle.pth_ring.specs.declared.event.Event.{Event}
 use Rattle.pth_ring.specs.declared.event.Status.{Status}
-use Rattle.pth_ring.specs.declared.event.Status.TheVariants.{Pending, Occurred}
+use Rattle.pth_ring.specs.declared.event.Status.TheVariants.{Pending}
 use Rattle.pth_ring.specs.Arena.{RingsOf, events_of}
 use Rattle.pth_ring.specs.Ring.{RingGoesOn, Begins, from, rest_of, each, ring_holds}
 use Rattle.pth_ring.specs.Rings.{Events, is_pending, is_settled, with_event, with_next_look, with_status}
@@ -98,30 +98,12 @@ module _ {P S H : Type 0} (f : P → Functions S H) (s : State P S H) where
     asked_by true check holds is = (refl, cc is)
     asked_by false check holds is = absurd (cc is)
 
-    unasked_by : (due check : Bool) → (if due then Some check else None) ≡ None → due ≡ false
-    unasked_by true check is = absurd (cc is)
-    unasked_by false check is = refl
-
     function_both : (d c : Bool) (o : Option Event) → IsFunction next check arg interval o → due ≡ d → holds f s check arg ≡ c → look e o ≡ option_map (with_both d c) o
     function_both d c None is a b = absurd is
     function_both d c (Some v) is a b = ap (λ (y : Event). Some y) (function_one v is.0 is.1 ∙ ap₂ (λ (x y : Bool). with_both x y v) a b)
 
-    -- no look changes when it is looked at next, but one that is due and finds that the check does not hold
-    kept_next : (x : Status) (o : Option Event) → IsFunction next check arg interval o → option_map (λ (v : Event). with_next_look next (with_status x v)) o ≡ option_map (with_status x) o
-    kept_next x None is = absurd is
-    kept_next x (Some v) is = ap (λ (m : ℕ). Some (with_next_look m (with_status x v))) (sym is.1)
-
-    pub occurred_looked : (o : Option Event) → IsFunction next check arg interval o → Some true ≡ (if due then Some (holds f s check arg) else None) → option_map (with_status Occurred) o ≡ look e o
-    occurred_looked o is asked = (let b = asked_by due (holds f s check arg) true (sym asked) in sym (function_both true true o is b.0 b.1 ∙ kept_next Occurred o is))
-
     pub off_looked : (o : Option Event) → IsFunction next check arg interval o → Some false ≡ (if due then Some (holds f s check arg) else None) → option_map (λ (v : Event). with_next_look (moment_after (now_of s.control) interval) (with_status Pending v)) o ≡ look e o
     off_looked o is asked = (let b = asked_by due (holds f s check arg) false (sym asked) in sym (function_both true false o is b.0 b.1))
-
-    by_early : (c : Bool) (o : Option Event) → IsFunction next check arg interval o → due ≡ false → holds f s check arg ≡ c → option_map (with_status Pending) o ≡ look e o
-    by_early c o is a b = sym (function_both false c o is a b ∙ kept_next Pending o is)
-
-    pub early_looked : (o : Option Event) → IsFunction next check arg interval o → None ≡ (if due then Some (holds f s check arg) else None) → option_map (with_status Pending) o ≡ look e o
-    early_looked o is asked = by_early (holds f s check arg) o is (unasked_by due (holds f s check arg) (sym asked)) refl
 
     settled_some : (x : Status) (g : Event → Event) (o : Option Event) → IsFunction next check arg interval o → ((v : Event) → (g v).status ≡ x) → is_settled (option_map g o) ≡ not (is_pending x)
     settled_some x g None is status = absurd is
@@ -309,9 +291,3 @@ module _ {P S H : Type 0} (f : P → Functions S H) (old : WorldOf P S H) (e : �
       made = made ∙ so_far.made;
       same = ap (λ (w : WorldOf P S H). record w { events = x }) so_far.same;
     }
-
-    pub looked_less : m ≢ e → length (from m ring) < length (from n ring)
-    looked_less more =
-        let next : (if m == e then [] else from m ring) ≡ from m ring = rw (not_same m e more) refl in
-        let is : length (from n ring) ≡ length (n ∷ from m ring) = ap (λ (l : List ℕ). length l) (rest ∙ ap (λ (l : List ℕ). n ∷ l) next) in
-        omega (arith, is)

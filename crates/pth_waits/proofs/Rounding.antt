@@ -1,5 +1,5 @@
 -- The events of a ring are gone over, as long as all would be found pending.
-use Rattle.std.proofs.Common.{◌≡◌, ◌≢◌, ◌∙◌, ℕ, ◌+◌, ◌==◌, ◌<◌, ◌++◌, ◌∷◌, not, Bool, true, false, cond, if◌then◌else◌, min, List, [], fold, length, All, Option, Some, None, option_map, inl, inr, refl, sym, ap, subst, append_assoc, arith}
+use Rattle.std.proofs.Common.{◌≡◌, ◌≢◌, ◌∙◌, ℕ, ◌+◌, ◌<◌, ◌++◌, ◌∷◌, not, Bool, true, false, cond, min, List, [], fold, All, Option, Some, None, option_map, inl, inr, refl, sym, ap, subst, append_assoc, arith}
 use Rattle.std.proofs.lemmas.List.Elements.{All-append, All-cons, All-head, All-nil, All-tail, All-weaker}
 use Rattle.pth_base.proofs.Tables.{same_self, not_same}
 use Rattle.pth_base.specs.declared.event.EventSpec.{EventSpec}
@@ -154,12 +154,6 @@ module _ {P S H : Type 0} (w : WorldOf P S H) (e : ℕ) where
       pending = more_pending;
       later = more_later;
     }
-
-    pub pends_less : m ≢ e → length (from m ring) < length (from n ring)
-    pends_less more =
-        let next : (if m == e then [] else from m ring) ≡ from m ring = rw (not_same m e more) refl in
-        let is : length (from n ring) ≡ length (n ∷ from m ring) = ap (λ (l : List ℕ). length l) (goes.rest ∙ ap (λ (l : List ℕ). n ∷ l) next) in
-        omega (arith, is)
 
     pub all_later : (s : State P S H) → StandsFor w s → AreFoundPending s (after_now s.control) (s.control.events.rings e) → now_of s.control < min until own
     all_later s st finds = more_later s st (subst (AreFoundPending s (after_now s.control)) (ap (λ (y : Events). y.rings e) st.control.events) finds)

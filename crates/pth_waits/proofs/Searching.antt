@@ -37,9 +37,6 @@ module _ {P S H : Type 0} (k : Control P S H) where
     pub next_is : next ≡ head_of back
     pub none : filter can_be_joined (holders front) ≡ []
 
-  pub search_begins : (next : Option ℕ) → next ≡ head_of (queue k queues.Dead) → Searched next
-  search_begins next is = record { front = []; back = queue k queues.Dead; split = refl; next_is = is; none = refl }
-
   one_more : (front : List Ranked) (r : Ranked) (b : Bool) → can_be_joined r.holder ≡ b → filter can_be_joined (holders (front ++ r ∷ [])) ≡ filter can_be_joined (holders front) ++ cond b (r.holder ∷ []) []
   one_more front r b is = ap (filter can_be_joined) (map-append (λ (x : Ranked). x.holder) front (r ∷ [])) ∙ kept can_be_joined (holders front) (r.holder ∷ []) ∙ ap (λ (c : Bool). filter can_be_joined (holders front) ++ cond c (r.holder ∷ []) []) is
 

@@ -46,7 +46,7 @@ fn is_point(awaits: Awaits) -> bool
     )
 }
 
-// The same of a thread by its number; false where there is none.
+// Whether a thread, by its number, lets itself be canceled and was asked to end; false where there is none.
 fn is_asked<P: Program>(w: &World<P>, t: Tid) -> bool
     requires { IsSound w.now.threads }
     ensures { (k : Control P P.State P.Shared) → Shows w.now k → result ≡ is_to_cancel_by (or_nobody (entry_of k t.0)) }

@@ -457,11 +457,6 @@ entry_some x t u sound e = rw (seen_at None (slot_of x.records) (entry_at x.reco
     by_entry (Some d) h = refl
     by_entry None h = absurd (h refl)
 
--- one that can be suspended may stand among the suspended
-pub can_may : (o : Option Entry) → IfSome o (λ e. CanSuspend e.state) → IfSome o (λ e. MayStandIn queue.Suspended true e.state)
-can_may (Some e) can = (refl, can)
-can_may None can = tt
-
 -- who runs, where t does not
 rests_by : (t x : ℕ) (b : Bool) → (x == t) ≡ b → (Some x ≡ Some t → ⊥) → (if b then None else Some x) ≡ Some x
 rests_by t x true is other = absurd (other (ap Some (same_means x t is)))
@@ -500,16 +495,6 @@ queued_rests w t q whole stands is = by_slot (slot_of w.threads.records t) (runn
     by_slot : (o : Option ℕ) → IsSome o → IfSome o (λ u. queue_of u w.threads.queues ≡ Some q) → IfSome o (λ u. IsNowhere u w.threads.queues) → ⊥
     by_slot (Some u) known there nowhere = cc (there, nowhere)
     by_slot None known there nowhere = cc known
-
--- nor does a dead one
-pub dead_rests : {P S H : Type 0} (w : WorldOf P S H) (e : Entry) → Whole w → IsKnown w.threads e.tid.0 → Some e ≡ entry_in w.threads e.tid.0 → is_dead e.state ≡ true → w.scheduler.running ≢ Some e.tid.0
-dead_rests w e whole known is dead runs =
-    let slot = known_slot (slot_of w.threads.records e.tid.0) known in
-    by_state e.state dead ((fits_at w e.tid.0 slot.0 e whole slot.1 is).runs runs)
-  where
-    by_state : (s : ThreadState) → is_dead s ≡ true → s ≡ state.Running → ⊥
-    by_state state.Dead dead is = cc is
-    by_state s dead is = cc dead
 
 -- a dead thread stands in the dead queue
 pub dead_stands : {P S H : Type 0} (w : WorldOf P S H) (e : Entry) → Whole w → IsKnown w.threads e.tid.0 → Some e ≡ entry_in w.threads e.tid.0 → is_dead e.state ≡ true → IsIn queue.Dead w.threads e.tid.0
@@ -617,21 +602,6 @@ module _ {P S H : Type 0} (w v : WorldOf P S H) (t : ℕ) where
     stored = λ r apart. stores_as w v r store (entry_kept w.threads v.threads t r but.sound (ap (λ (k : ℕ → Option ℕ). k r) same.slots) touches.others apart) (but.stored r apart);
     top = ap (λ (x : AttrsOf). x.top) objects ∙ but.top ∙ sym touches.top;
   }
-
-pub whole_but : {P S H : Type 0} (w : WorldOf P S H) (t : ℕ) → Whole w → WholeBut w t
-whole_but w t whole = record { sound = whole.sound; fits = λ u apart. whole.fits u; runner = whole.runner; stored = λ u apart. whole.stored u; top = whole.top }
-
--- where t fits as well, and stores something only while it is alive
-pub whole_again : {P S H : Type 0} (w : WorldOf P S H) (t : ℕ) → WholeBut w t → ((u : ℕ) → tid_at w.threads.records u ≡ t → Fits w.scheduler.running (view w.threads u)) → StoresAlive w t → Whole w
-whole_again w t but own stored = record { sound = but.sound; fits = λ u. by_own u (tid_at w.threads.records u == t) refl; runner = but.runner; stored = λ u. stored_by u (u == t) refl; top = but.top }
-  where
-    by_own : (u : ℕ) (b : Bool) → (tid_at w.threads.records u == t) ≡ b → Fits w.scheduler.running (view w.threads u)
-    by_own u true is = own u (same_means _ t is)
-    by_own u false is = but.fits u (same_fails _ t is)
-
-    stored_by : (u : ℕ) (b : Bool) → (u == t) ≡ b → StoresAlive w u
-    stored_by u true is = subst (λ (n : ℕ). StoresAlive w n) (sym (same_means u t is)) stored
-    stored_by u false is = but.stored u (same_fails u t is)
 
 -- where none but t runs, before and after
 pub rerun_but : {P S H : Type 0} (w v : WorldOf P S H) (t : ℕ) → v.threads ≡ w.threads → v.store ≡ w.store → v.attributes ≡ w.attributes → IsAbout w.scheduler.running t → IsAbout v.scheduler.running t → IsRunner v → WholeBut w t → WholeBut v t

@@ -1,5 +1,5 @@
 -- A thread's place is that of its slot.
-use Rattle.std.proofs.Common.{◌≡◌, ℕ, ◌==◌, ◌+◌, Bool, true, false, ◌||◌, if◌then◌else◌, ℤ, List, [], ◌∷◌, map, Option, Some, None, option_map, option_and_then, is_some, refl, sym, ◌∙◌, ap}
+use Rattle.std.proofs.Common.{◌≡◌, ℕ, ◌==◌, Bool, true, false, ◌||◌, if◌then◌else◌, ℤ, List, [], ◌∷◌, map, Option, Some, None, option_map, option_and_then, is_some, refl, sym, ◌∙◌, ap}
 use mathlib.Core.Path.{fun_ext}
 use Rattle.std.specs.Option.{option_or}
 use Rattle.pth_base.specs.Naming.{IsTied}
@@ -17,9 +17,6 @@ use Rattle.pth_world.specs.World.{ThreadsBySlot}
 use Rattle.pth_world.specs.Shows.{ShowsThreads}
 use Rattle.pth_world.specs.Sound.{IsSound}
 use Rattle.pth_world.specs.Placed.{in_queue, first_placed, place}
-
-one_more : ℤ × ℕ → ℤ × ℕ
-one_more p = (p.0, p.1 + 1)
 
 -- a slot stands in a queue exactly if it has a place there
 held_by : (at : ℤ × ℕ) (b h : Bool) (o : Option (ℤ × ℕ)) (f : ℤ × ℕ → ℤ × ℕ) → h ≡ is_some o → (b || h) ≡ is_some (if b then Some at else option_map f o)

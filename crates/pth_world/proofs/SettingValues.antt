@@ -18,10 +18,10 @@ use Rattle.pth_threads.specs.declared.entry.Entry.{Entry}
 use Rattle.pth_model.specs.declared.blocked.Blocked.{Blocked}
 use Rattle.pth_model.specs.AttributeHandling.{object, sets_value}
 use Rattle.pth_model.specs.Changes.{sets}
-use Rattle.pth_model.specs.State.{Control, Attributes}
+use Rattle.pth_model.specs.State.{Control}
 use Rattle.pth_world.specs.Frame.{Frame}
 use Rattle.pth_world.specs.Numbering.{Thread, Object, Event, Port, Numbers, no_numbers, GivesAtMost}
-use Rattle.pth_world.specs.Shows.{Shows, ShowsThreads, ShowsAttributes}
+use Rattle.pth_world.specs.Shows.{Shows, ShowsThreads}
 use Rattle.pth_world.specs.Sound.{IsSound, IsKnown, IsAlive, KeepsAttributes, lives}
 use Rattle.pth_world.specs.Touches.{Touches, SameThreads, IsAside, view_changed}
 use Rattle.pth_world.specs.Whole.{Whole, FitsEntry, Fits, View, view}
@@ -35,10 +35,6 @@ use Rattle.pth_world.proofs.Views.{change_touches}
 -- ---- objects alone
 
 module _ {P S H : Type 0} (w : WorldOf P S H) (y : AttrsOf) where
-  -- where objects alone change, what they show is what counts
-  pub objects_show : (k : Control P S H) (x : Attributes) → Shows w k → ShowsAttributes y x → Shows (record w { attributes = y }) (record k { attributes = x })
-  objects_show k x sh objects = record { program = sh.program; shared = sh.shared; threads = sh.threads; attributes = objects; events = sh.events; conditions = sh.conditions; barriers = sh.barriers; kernel = sh.kernel; used = sh.used; scheduler = sh.scheduler }
-
   pub objects_whole : y.top ≡ w.attributes.top → Whole w → Whole (record w { attributes = y })
   objects_whole same whole = record { sound = whole.sound; fits = whole.fits; runner = whole.runner; stored = whole.stored; top = same ∙ whole.top }
 

@@ -1,6 +1,5 @@
 -- A world with main alone stands for the state from which a run starts.
 use Rattle.std.proofs.lemmas.Bool.{cases_lt}
-use Rattle.std.proofs.lemmas.Int.{ints}
 use Rattle.std.proofs.lemmas.List.{get_or_past, get_or-replicate, length-replicate}
 use mathlib.Core.Path.{fun_ext}
 use Rattle.std.proofs.Common.{arith, ◌≡◌, ◌<◌, ℕ, inl, inr, pos, true, false, List, [], ◌∷◌, length, map, replicate, IsSome, IfSome, Option, Some, None, option_map, refl, sym, ◌∙◌, ap, subst}
@@ -50,7 +49,7 @@ use Rattle.pth_model.specs.Allowance.{has_entry, points, waited}
 use Rattle.pth_tables.specs.Waits.{WaitsOf, KeptWaits, waits_of, no_waits}
 use Rattle.pth_tables.specs.Counts.{Counts, IsCounted}
 use Rattle.pth_tables.proofs.CountsKept.{counts_start}
-use Rattle.pth_world.specs.Sound.{IsSound, IsPrio, IsCancel, HasAttributes, IsKnown}
+use Rattle.pth_world.specs.Sound.{IsSound, HasAttributes, IsKnown}
 use Rattle.pth_world.specs.Whole.{IsBeforeReady, Newly, view, Fits, FitsEntry, Whole}
 use Rattle.pth_world.proofs.Showing.{not_known}
 use Rattle.pth_world.proofs.Places.{queue-entered}
@@ -169,12 +168,6 @@ module _ {P S H : Type 0} (f : P → Functions S H) (program : P) (top : ℕ) (r
     queues = refl;
     bodies = some;
   }
-
-pub first_prio : IsPrio first_thread.prio
-first_prio = record { low = grind (arith, ints); high = grind (arith, ints) }
-
-pub first_cancel : IsCancel first_thread.cancel
-first_cancel = record { low = omega arith; high = omega arith }
 
 -- main alone is ready, and there was no dispatch: the number of its entry tells nothing
 abbrev main_as : ℕ → Standing

@@ -319,10 +319,6 @@ top_taken by_name slots x = by_count (is_counting x)
     by_count true = top_reached 0 slots (seen_at_top x)
     by_count false = refl
 
-some_by : (t : ℕ) (x : Standing) (xs : List Standing) (b : Bool) → (x.tid == t) ≡ b → 1 ≤ stands t (x ∷ xs) → (1 ≤ stands t xs → (s : Standing) × (standing_of t xs ≡ Some s)) → (s : Standing) × (cond b (Some x) (standing_of t xs) ≡ Some s)
-some_by t x xs true test h more = (x, refl)
-some_by t x xs false test h more = more (let none : cond {A = ℕ} (x.tid == t) 1 0 ≡ 0 = ap (λ (b : Bool). cond {A = ℕ} b 1 0) test in omega (arith, h, none, stands-cons t x xs))
-
 module _ {P S H : Type 0} (w : ThreadsBySlot S) (k : Control P S H) (sound : IsSound w) (sh : ShowsThreads k.top w k.threads) (t u : ℕ) (e : slot_of w.records t ≡ Some u) (at : queue_of u w.queues ≡ Some Ready) (h : IsHistory (trail_with t k)) where
   abbrev pub ready : List Standing
   ready = k.threads.standing Ready

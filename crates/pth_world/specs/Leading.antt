@@ -53,6 +53,12 @@ pub record IsTold {P S H : Type 0} (w v : WorldOf P S H) (m : Mark) (a : Answer)
   pub silent : (s : State P S H) → StandsFor w s → (effect_of (attempt s) s).marks ≡ []
   pub stands : (s : State P S H) → StandsFor w s → StandsFor v ((effect_of (attempt s) and_then tells m) s).state
 
+-- Where a piece of code led the world from each of these states: to that of the transition, with its marks told; or for want of memory it
+-- broke off.
+pub record LedTo {P S H T : Type 0} (from : State P S H → Type 0) (to : State P S H → Transition P S H) (v : WorldOf P S H) (old new : List Mark) (r : Result T OutOfMemory) : Type 0 where
+  pub leads : OnOk r ((s : State P S H) → from s → Leads v old new (to s))
+  pub cut : OnErr r ((s : State P S H) → from s → IsCut old new (to s).marks)
+
 -- What a piece of code came to from each of these states: what comes next, and where the world was led; or for want of memory it broke
 -- off.
 pub record Goes {P S H : Type 0} (from : State P S H → Type 0) (last : Last P S H) (v : WorldOf P S H) (old new : List Mark) (r : Result Next OutOfMemory) : Type 0 where

@@ -13,7 +13,7 @@ returns-clause-answered g c =
     decided c.args.w.now c.attr_set.new.self (λ (u : Unit {0}). Int (pos 1))
     (λ s. set_answer s.control.top s.control.threads.known (object s.control c.args.a) c.args.v.now)
     (λ s. sets_value c.args.a c.args.v.now (object s.control c.args.a))
-    (λ u. refl) c.attr_set.result c.done.result c.done.ensures
+    (λ u. refl) c.attr_set.result c.answer_of.result c.answer_of.ensures
     (λ s st.
     let top : s.control.top ≡ c.args.w.now.attributes.top = st.control.threads.top ∙ sym c.requires.whole.top in
     subst (λ (n : ℕ). c.attr_set.result ≡ set_answer n s.control.threads.known (object s.control c.args.a) c.args.v.now) (sym top) (rw (st.control.threads.known, st.control.attributes.objects) answer))

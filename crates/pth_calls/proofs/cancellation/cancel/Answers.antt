@@ -32,7 +32,7 @@ returns-in_err-end_or_ask-clause-goes g c =
     rw p.1 (record {
       next = tt;
       leads = tt;
-      cut = λ s st. rw (c.requires.call, cancel_begun f s c.args.t.0 c.args.n a (names s st)) (cut_one s a (tells (Answered c.args.t (Cancel c.args.n) (Int (pos 1)))) _ _ (c.in_err-end_or_ask.ensures.err s st));
+      cut = λ s st. rw (c.requires.call, cancel_begun f s c.args.t.0 c.args.n a (names s st)) (cut_one s a (tells (Answered c.args.t (Cancel c.args.n) (Int (pos 1)))) _ _ (c.in_err-end_or_ask.ensures.goes.cut s st));
     })
 
 pub returns-clause-goes : goal.returns-clause-goes
@@ -43,7 +43,7 @@ returns-clause-goes g c =
     let a = ends_or_asks f c.in-Ok.it.0.0 c.in-Ok.it.1 in
     quiet_goes _ c.args.w.now c.end_or_ask.new.w a (Answered c.args.t c.args.call.now (Int (pos 1))) (Int (pos 1)) _ _ _ c.done-2.result
     (λ s st. rw c.requires.call (cancel_begun f s c.args.t.0 c.args.n a (names s st)))
-    c.in_ok-end_or_ask.ensures.ok
+    c.in_ok-end_or_ask.ensures.goes.leads
     (rw c.requires.call (quiet_cancel c.args.t c.args.n (Int (pos 1))))
     c.done-2.ensures.next c.done-2.ensures.ok c.done-2.ensures.err
 

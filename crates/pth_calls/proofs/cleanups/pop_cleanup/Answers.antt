@@ -30,7 +30,7 @@ returns-in_err-run_popped-clause-goes g c =
     let f = g.P.Program.functions in
     let v : SFits w64 c.args.v = search rules in
     let x : SFits w64 c.in-Some.arg = search rules in
-    let ran = simp to_z-of_z at c.in_err-run_popped.ensures.err in
+    let ran = simp to_z-of_z at c.in_err-run_popped.ensures.goes.cut in
     let p = err_from_is_err_and c.from_residual.result c.from_residual.ensures.1 in
     rw p.1 (record {
       next = tt;
@@ -46,7 +46,7 @@ returns-clause-goes g c =
     let f = g.P.Program.functions in
     let v : SFits w64 c.args.v = search rules in
     let x : SFits w64 c.in-Some.arg = search rules in
-    let ran = simp to_z-of_z at c.in_ok-run_popped.ensures.ok in
+    let ran = simp to_z-of_z at c.in_ok-run_popped.ensures.goes.leads in
     done_goes _ c.args.w.now c.run_popped.new.w c.pop_cleanup.new.self (where_so (not (is_zero c.args.v)) (runs_handler f c.args.t.0 c.in-Some.h c.in-Some.arg)) (Answered c.args.t c.args.call.now (Int (pos 1))) (Int (pos 1)) _ _ _ c.done-2.result
     (λ s st. rw c.requires.call (pop_runs f s c.args.t.0 c.args.v (c.in-Some.h, c.in-Some.arg) (ap (λ (k : Store). pop_answer k.cleanups c.args.t.0) st.store ∙ sym c.cleanup_below.ensures.answer ∙ c.in-Some.is)))
     ran

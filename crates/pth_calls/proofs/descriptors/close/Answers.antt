@@ -10,7 +10,7 @@ returns-clause-answered g c =
     let refusal = rw (c.kernel_mut.ensures.value, to_z-of_z) at c.close.ensures.refusal in
     let closed = rw (c.kernel_mut.ensures.value, to_z-of_z) at c.close.ensures.closed in
     let refused = rw c.kernel_mut.ensures.value at c.close.ensures.refused in
-    close_answered c.args.w.now c.close.new.self (fd_named c.args.f) c.close.result c.done.result c.done.ensures refusal closed refused
+    close_answered c.args.w.now c.close.new.self (fd_named c.args.f) c.close.result c.answer_of.result c.answer_of.ensures refusal closed refused
 
 pub returns-clause-frame : goal.returns-clause-frame
 returns-clause-frame g c = kernel_frame c.args.w.now c.close.new.self c.requires

@@ -7,7 +7,7 @@ pub returns-clause-told : goal.returns-clause-told
 returns-clause-told g c =
     let m : SFits w64 c.args.m = search rules in
     let call = simp to_z-of_z at c.init_mutex.ensures in
-    mutex_initialised_told c.args.w.now c.init_mutex.new.self c.args.t call.keeps.shows c.args.m c.init_mutex.result c.done.result call.answer c.done.ensures call.changes call.refused
+    mutex_initialised_told c.args.w.now c.init_mutex.new.self c.args.t call.keeps.shows c.args.m c.init_mutex.result c.answer_of.result call.answer c.answer_of.ensures call.changes call.refused
 
 pub returns-clause-frame : goal.returns-clause-frame
 returns-clause-frame g c = stored_frame c.args.w.now _ c.requires.runs c.init_mutex.new.self c.requires.whole c.init_mutex.ensures.keeps

@@ -13,7 +13,7 @@ returns-in_err-answer-clause-goes g c =
     let o : SFits w64 c.args.o = search rules in
     let h : SFits w64 c.args.h = search rules in
     let v : SFits w64 c.args.v = search rules in
-    let used = simp to_z-of_z at c.in_err-answer.ensures.err in
+    let used = simp to_z-of_z at c.in_err-answer.ensures.goes.cut in
     let p = err_from_is_err_and c.from_residual.result c.from_residual.ensures.1 in
     rw p.1 (record {
       next = tt;
@@ -31,7 +31,7 @@ returns-clause-goes g c =
     let a = c.in_ok-answer.answer in
     quiet_goes _ c.args.w.now c.use_control.new.w (λ s. effect_of (once f s c.args.t.0 c.args.o c.args.h c.args.v).begin s) (Answered c.args.t c.args.call.now a) a _ _ _ c.done.result
     (λ s st. rw c.requires.call (once_begun f s c.args.t.0 c.args.o c.args.h c.args.v a (used.verdict s st)))
-    used.ok
+    used.goes.leads
     (rw c.requires.call (quiet_once c.args.t c.args.o c.args.h c.args.v a))
     c.done.ensures.next c.done.ensures.ok c.done.ensures.err
 

@@ -15,43 +15,54 @@ run_told_handler-requires-clause-alive g c =
     let threads = ap (λ (z : WorldOf _ _ _). z.threads) c.once.ensures.same in
     rw threads (runner_alive c.args.w.now c.args.t.0 c.requires.whole c.requires.runs)
 
-pub returns-in_err-run_told_handler-in-Ok-true-clause-err : goal.returns-in_err-run_told_handler-in-Ok-true-clause-err
-returns-in_err-run_told_handler-in-Ok-true-clause-err g c =
+pub returns-in_err-run_told_handler-in-Ok-true-clause-goes : goal.returns-in_err-run_told_handler-in-Ok-true-clause-goes
+returns-in_err-run_told_handler-in-Ok-true-clause-goes g c =
     let f = g.P.Program.functions in
     let o : SFits w64 c.args.o = search rules in
     let h : SFits w64 c.args.h = search rules in
     let v : SFits w64 c.args.v = search rules in
     let once = simp to_z-of_z at c.once.ensures in
     let is : c.once.result ≡ Ok true = search rules in
-    let ran = simp (to_z-of_z, c.handler_named.ensures) at c.in_err-run_told_handler-in-Ok-true.ensures.err in
+    let ran = simp (to_z-of_z, c.handler_named.ensures) at c.in_err-run_told_handler-in-Ok-true.ensures.goes.cut in
     let p = err_from_is_err_and c.from_residual.result c.from_residual.ensures.1 in
-    rw p.1 (λ s st.
-    let first = is_first (is_below c.args.o once_limit) (s.control.used (number c.args.o)) (sym is ∙ once.answer s.control st.control) in
-    let used = use_stands c.args.w.now c.once.new.self s (number c.args.o) (once.first is s.control st.control) (ap (λ (z : WorldOf _ _ _). z.store) c.once.ensures.same) st in
-    rw (first_effect f s c.args.t.0 c.args.o c.args.h c.args.v first.0 first.1) (ran _ used))
+    rw p.1 (record {
+      leads = tt;
+      cut = λ s st. (
+          let first = is_first (is_below c.args.o once_limit) (s.control.used (number c.args.o)) (sym is ∙ once.answer s.control st.control) in
+          let used = use_stands c.args.w.now c.once.new.self s (number c.args.o) (once.first is s.control st.control) (ap (λ (z : WorldOf _ _ _). z.store) c.once.ensures.same) st in
+          rw (first_effect f s c.args.t.0 c.args.o c.args.h c.args.v first.0 first.1) (ran _ used));
+    })
 
-pub returns-in_ok-run_told_handler-in-Ok-true-clause-ok : goal.returns-in_ok-run_told_handler-in-Ok-true-clause-ok
-returns-in_ok-run_told_handler-in-Ok-true-clause-ok g c s st =
+pub returns-in_ok-run_told_handler-in-Ok-true-clause-goes : goal.returns-in_ok-run_told_handler-in-Ok-true-clause-goes
+returns-in_ok-run_told_handler-in-Ok-true-clause-goes g c =
     let f = g.P.Program.functions in
     let o : SFits w64 c.args.o = search rules in
     let h : SFits w64 c.args.h = search rules in
     let v : SFits w64 c.args.v = search rules in
     let once = simp to_z-of_z at c.once.ensures in
     let is : c.once.result ≡ Ok true = search rules in
-    let ran = simp (to_z-of_z, c.handler_named.ensures) at c.in_ok-run_told_handler-in-Ok-true.ensures.ok in
-    let first = is_first (is_below c.args.o once_limit) (s.control.used (number c.args.o)) (sym is ∙ once.answer s.control st.control) in
-    let used = use_stands c.args.w.now c.once.new.self s (number c.args.o) (once.first is s.control st.control) (ap (λ (z : WorldOf _ _ _). z.store) c.once.ensures.same) st in
-    let l = ran _ used in
-    rw (first_effect f s c.args.t.0 c.args.o c.args.h c.args.v first.0 first.1) (record { stands = l.stands; tells = l.tells })
+    let ran = simp (to_z-of_z, c.handler_named.ensures) at c.in_ok-run_told_handler-in-Ok-true.ensures.goes.leads in
+    record {
+      leads = λ s st. (
+          let first = is_first (is_below c.args.o once_limit) (s.control.used (number c.args.o)) (sym is ∙ once.answer s.control st.control) in
+          let used = use_stands c.args.w.now c.once.new.self s (number c.args.o) (once.first is s.control st.control) (ap (λ (z : WorldOf _ _ _). z.store) c.once.ensures.same) st in
+          let l = ran _ used in
+          rw (first_effect f s c.args.t.0 c.args.o c.args.h c.args.v first.0 first.1) (record { stands = l.stands; tells = l.tells }));
+      cut = tt;
+    }
 
-pub returns-in-Ok-false-clause-ok : goal.returns-in-Ok-false-clause-ok
-returns-in-Ok-false-clause-ok g c s st =
+pub returns-in-Ok-false-clause-goes : goal.returns-in-Ok-false-clause-goes
+returns-in-Ok-false-clause-goes g c =
     let o : SFits w64 c.args.o = search rules in
     let once = simp to_z-of_z at c.once.ensures in
     let is : c.once.result ≡ Ok false = search rules in
-    let again = is_again (is_below c.args.o once_limit) (s.control.used (number c.args.o)) (sym is ∙ once.answer s.control st.control) in
     let same = once.still (λ other. absurd (cc (is, other))) in
-    rw (again_effect g.P.Program.functions s c.args.t.0 c.args.o c.args.h c.args.v again.0 again.1, same) (record { stands = st; tells = sym (append-nil _) })
+    record {
+      leads = λ s st. (
+          let again = is_again (is_below c.args.o once_limit) (s.control.used (number c.args.o)) (sym is ∙ once.answer s.control st.control) in
+          rw (again_effect g.P.Program.functions s c.args.t.0 c.args.o c.args.h c.args.v again.0 again.1, same) (record { stands = st; tells = sym (append-nil _) }));
+      cut = tt;
+    }
 
 pub returns-in-Err-clause-verdict : goal.returns-in-Err-clause-verdict
 returns-in-Err-clause-verdict g c s st =
@@ -60,13 +71,17 @@ returns-in-Err-clause-verdict g c s st =
     let none = is_none_such (is_below c.args.o once_limit) (s.control.used (number c.args.o)) c.in-Err.e (sym c.in-Err.is ∙ once.answer s.control st.control) in
     rw none.1 (no_verdict g.P.Program.functions s c.args.t.0 c.args.o c.args.h c.args.v none.0)
 
-pub returns-in-Err-clause-ok : goal.returns-in-Err-clause-ok
-returns-in-Err-clause-ok g c s st =
+pub returns-in-Err-clause-goes : goal.returns-in-Err-clause-goes
+returns-in-Err-clause-goes g c =
     let o : SFits w64 c.args.o = search rules in
     let once = simp to_z-of_z at c.once.ensures in
-    let none = is_none_such (is_below c.args.o once_limit) (s.control.used (number c.args.o)) c.in-Err.e (sym c.in-Err.is ∙ once.answer s.control st.control) in
     let same = once.still (λ other. absurd (cc (c.in-Err.is, other))) in
-    rw (no_effect g.P.Program.functions s c.args.t.0 c.args.o c.args.h c.args.v none.0, same) (record { stands = st; tells = sym (append-nil _) })
+    record {
+      leads = λ s st. (
+          let none = is_none_such (is_below c.args.o once_limit) (s.control.used (number c.args.o)) c.in-Err.e (sym c.in-Err.is ∙ once.answer s.control st.control) in
+          rw (no_effect g.P.Program.functions s c.args.t.0 c.args.o c.args.h c.args.v none.0, same) (record { stands = st; tells = sym (append-nil _) }));
+      cut = tt;
+    }
 
 pub returns-in_ok-run_told_handler-in-Ok-true-clause-frame : goal.returns-in_ok-run_told_handler-in-Ok-true-clause-frame
 returns-in_ok-run_told_handler-in-Ok-true-clause-frame g c =

@@ -7,4 +7,4 @@ use Rattle.pth_end.proofs.acts.notify.Goals as goal
 pub returns-clause-answered : goal.returns-clause-answered
 returns-clause-answered g c =
     let call = rw (c.conditions_mut.ensures.value, to_z-of_z c.ranges.c) at c.notify.ensures in
-    seated_answered c.args.w.now c.notify.new.self (λ y. cond_notify_answer y c.args.c) (cond_notified c.args.c (not (is_zero c.args.v))) c.notify.result c.done.result call.answer c.done.ensures (search rules) call.refused
+    seated_answered c.args.w.now c.notify.new.self (λ y. cond_notify_answer y c.args.c) (cond_notified c.args.c (not (is_zero c.args.v))) c.notify.result c.answer_of.result call.answer c.answer_of.ensures (search rules) call.refused

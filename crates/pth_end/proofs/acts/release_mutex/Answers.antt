@@ -14,7 +14,7 @@ pub returns-clause-told : goal.returns-clause-told
 returns-clause-told g c =
     let m : SFits w64 c.args.m = search rules in
     let call = simp to_z-of_z at c.release_mutex.ensures in
-    done_told c.args.w.now c.release_mutex.new.self c.args.t call.keeps.shows (MutexRelease c.args.m) (λ x. mutex_release_answer x.mutexes c.args.t.0 c.args.m) (with_mutexes (mutex_released c.args.t.0 (object_named c.args.m))) (release_tells c.args.t c.args.m) refl c.release_mutex.result c.done.result call.answer c.done.ensures call.changes call.refused
+    done_told c.args.w.now c.release_mutex.new.self c.args.t call.keeps.shows (MutexRelease c.args.m) (λ x. mutex_release_answer x.mutexes c.args.t.0 c.args.m) (with_mutexes (mutex_released c.args.t.0 (object_named c.args.m))) (release_tells c.args.t c.args.m) refl c.release_mutex.result c.answer_of.result call.answer c.answer_of.ensures call.changes call.refused
 
 pub returns-clause-handled : goal.returns-clause-handled
 returns-clause-handled g c =

@@ -1,10 +1,13 @@
-use Rattle.std.proofs.Common.{false}
-use Rattle.std.proofs.lemmas.Result.{on_ok_weaker, on_err_weaker}
+use Rattle.std.proofs.Common.{◌∙◌, false}
+use Rattle.std.proofs.lemmas.Result.{on_ok_weaker}
 use Rattle.pth_threads.specs.declared.entry.Change.TheVariants as change
+use Rattle.pth_model.specs.Cancellation.{canceled_by_other}
 use Rattle.pth_model.specs.Changes.{sets}
-use Rattle.pth_model.specs.Transition.{controlled}
+use Rattle.pth_model.specs.Transition.{changes, ◌and◌}
 use Rattle.pth_world.proofs.Stores.{alive_known}
-use Rattle.pth_end.proofs.Canceling.{change_stands, ends_then}
+use Rattle.pth_world.specs.Shows.{StandsFor}
+use Rattle.pth_end.proofs.Canceling.{change_leads, ends_then}
+use Rattle.pth_end.proofs.Chains.{goes_then}
 use Rattle.pth_end.proofs.cancellation.abort_thread.Goals as goal
 
 pub set_field-requires-clause-known : goal.set_field-requires-clause-known
@@ -16,23 +19,11 @@ set_field-requires-2-clause-known g c = alive_known c.set_field.new.self.threads
 pub cancel_from_outside-requires-clause-alive : goal.cancel_from_outside-requires-clause-alive
 cancel_from_outside-requires-clause-alive g c = c.set_field-2.ensures.alive (c.set_field.ensures.alive c.requires.alive)
 
-pub returns-clause-ok : goal.returns-clause-ok
-returns-clause-ok g c = on_ok_weaker c.cancel_from_outside.result (λ rest s st.
-    let one = sets c.args.t.0 (change.Joinable false) in
-    let two = sets c.args.t.0 (change.Cancel 3) in
-    let first = change_stands c.args.w.now c.set_field.new.self one s (c.set_field.ensures.shows s.control st.control) c.set_field.ensures.store st in
-    let next = change_stands c.set_field.new.self c.set_field-2.new.self two (controlled one s) (c.set_field-2.ensures.shows _ first.control) c.set_field-2.ensures.store first in
-    let last = rest _ next in
-    record { stands = last.stands; tells = last.tells }) c.cancel_from_outside.ensures.ok
-
-pub returns-clause-err : goal.returns-clause-err
-returns-clause-err g c = on_err_weaker c.cancel_from_outside.result (λ cut s st.
-    let one = sets c.args.t.0 (change.Joinable false) in
-    let two = sets c.args.t.0 (change.Cancel 3) in
-    let first = change_stands c.args.w.now c.set_field.new.self one s (c.set_field.ensures.shows s.control st.control) c.set_field.ensures.store st in
-    let next = change_stands c.set_field.new.self c.set_field-2.new.self two (controlled one s) (c.set_field-2.ensures.shows _ first.control) c.set_field-2.ensures.store first in
-    let last = cut _ next in
-    record { first = last.first; rest = last.rest; new_is = last.new_is; whole_is = last.whole_is }) c.cancel_from_outside.ensures.err
+pub returns-clause-goes : goal.returns-clause-goes
+returns-clause-goes g c =
+    let both = sets c.args.t.0 (change.Joinable false) and sets c.args.t.0 (change.Cancel 3) in
+    goes_then (StandsFor c.args.w.now) (changes both) (canceled_by_other g.P.Program.functions c.args.t.0) c.set_field-2.new.self c.cancel_from_outside.new.w _ _ _ c.cancel_from_outside.result
+    (λ s st. change_leads c.args.w.now c.set_field-2.new.self both (λ k sh. c.set_field-2.ensures.shows _ (c.set_field.ensures.shows k sh)) (c.set_field-2.ensures.store ∙ c.set_field.ensures.store) s _ st) c.cancel_from_outside.ensures.goes
 
 pub returns-clause-frame : goal.returns-clause-frame
 returns-clause-frame g c = on_ok_weaker c.cancel_from_outside.result (λ ends.

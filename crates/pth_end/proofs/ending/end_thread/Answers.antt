@@ -24,63 +24,70 @@ leave-requires-clause-known g c =
     let records = ap (λ (z : WorldOf _ _ _). z.threads.records) c.forget.ensures.keeps.same ∙ ap (λ (z : WorldOf _ _ _). z.threads.records) c.in_ok-give_all.ensures.handled.same ∙ ap (λ (z : WorldOf _ _ _). z.threads.records) c.in_ok-run_destructors.ensures.handled.same ∙ ap (λ (z : WorldOf _ _ _). z.threads.records) c.in_ok-run_cleanups.ensures.handled.same ∙ c.in_ok-undo_wait.ensures.records in
     rw records (alive_known c.args.w.now.threads c.args.t.0 c.requires.alive)
 
-pub returns-in_err-undo_wait-clause-err : goal.returns-in_err-undo_wait-clause-err
-returns-in_err-undo_wait-clause-err g c =
+pub returns-in_err-undo_wait-clause-goes : goal.returns-in_err-undo_wait-clause-goes
+returns-in_err-undo_wait-clause-goes g c =
     let p = err_from_is_err_and c.from_residual.result c.from_residual.ensures.1 in
-    rw p.1 (λ s st. cut_waiting g.P.Program.functions c.args.t.0 c.args.value s _ _ (c.in_err-undo_wait.ensures.err s st))
+    rw p.1 (record { leads = tt; cut = λ s st. cut_waiting g.P.Program.functions c.args.t.0 c.args.value s _ _ (c.in_err-undo_wait.ensures.goes.cut s st) })
 
-pub returns-in_err-run_cleanups-clause-err : goal.returns-in_err-run_cleanups-clause-err
-returns-in_err-run_cleanups-clause-err g c =
+pub returns-in_err-run_cleanups-clause-goes : goal.returns-in_err-run_cleanups-clause-goes
+returns-in_err-run_cleanups-clause-goes g c =
     let f = g.P.Program.functions in
     let p = err_from_is_err_and c.from_residual-in_err-run_cleanups.result c.from_residual-in_err-run_cleanups.ensures.1 in
-    rw p.1 (λ s st.
-    let undone = c.in_ok-undo_wait.ensures.ok s st in
-    cut_undone f c.args.t.0 c.args.value c.undo_wait.new.w s _ _ _ undone (cut_cleaning f c.args.t.0 c.args.value s _ _ (c.in_err-run_cleanups.ensures.err _ undone.stands)))
+    rw p.1 (record {
+      leads = tt;
+      cut = λ s st. (
+          let undone = c.in_ok-undo_wait.ensures.goes.leads s st in
+          cut_undone f c.args.t.0 c.args.value c.undo_wait.new.w s _ _ _ undone (cut_cleaning f c.args.t.0 c.args.value s _ _ (c.in_err-run_cleanups.ensures.goes.cut _ undone.stands)));
+    })
 
-pub returns-in_err-run_destructors-clause-err : goal.returns-in_err-run_destructors-clause-err
-returns-in_err-run_destructors-clause-err g c =
+pub returns-in_err-run_destructors-clause-goes : goal.returns-in_err-run_destructors-clause-goes
+returns-in_err-run_destructors-clause-goes g c =
     let f = g.P.Program.functions in
     let p = err_from_is_err_and c.from_residual-in_err-run_destructors.result c.from_residual-in_err-run_destructors.ensures.1 in
-    rw p.1 (λ s st.
-    let undone = c.in_ok-undo_wait.ensures.ok s st in
-    let cleaned = c.in_ok-run_cleanups.ensures.ok _ undone.stands in
-    cut_undone f c.args.t.0 c.args.value c.undo_wait.new.w s _ _ _ undone (cut_later f c.args.t.0 c.args.value c.run_cleanups.new.w s _ _ _ cleaned (cut_one _ (runs_destructors f c.args.t.0) (leaving f c.args.t.0 c.args.value) _ _ (c.in_err-run_destructors.ensures.err _ cleaned.stands))))
+    rw p.1 (record {
+      leads = tt;
+      cut = λ s st. (
+          let undone = c.in_ok-undo_wait.ensures.goes.leads s st in
+          let cleaned = c.in_ok-run_cleanups.ensures.goes.leads _ undone.stands in
+          cut_undone f c.args.t.0 c.args.value c.undo_wait.new.w s _ _ _ undone (cut_later f c.args.t.0 c.args.value c.run_cleanups.new.w s _ _ _ cleaned (cut_one _ (runs_destructors f c.args.t.0) (leaving f c.args.t.0 c.args.value) _ _ (c.in_err-run_destructors.ensures.goes.cut _ cleaned.stands))));
+    })
 
-pub returns-in_err-give_all-clause-err : goal.returns-in_err-give_all-clause-err
-returns-in_err-give_all-clause-err g c =
+pub returns-in_err-give_all-clause-goes : goal.returns-in_err-give_all-clause-goes
+returns-in_err-give_all-clause-goes g c =
     let f = g.P.Program.functions in
     let p = err_from_is_err_and c.from_residual-in_err-give_all.result c.from_residual-in_err-give_all.ensures.1 in
-    rw p.1 (λ s st.
-    let undone = c.in_ok-undo_wait.ensures.ok s st in
-    let cleaned = c.in_ok-run_cleanups.ensures.ok _ undone.stands in
-    let destructed = c.in_ok-run_destructors.ensures.ok _ cleaned.stands in
-    cut_undone f c.args.t.0 c.args.value c.undo_wait.new.w s _ _ _ undone (cut_later f c.args.t.0 c.args.value c.run_cleanups.new.w s _ _ _ cleaned (cut_giving f c.args.t.0 c.args.value c.run_destructors.new.w s _ _ _ destructed
-    (cut_one _ (gives_all c.args.t.0) (dies c.args.t.0 c.args.value) _ _ (c.in_err-give_all.ensures.err _ destructed.stands)))))
+    rw p.1 (record {
+      leads = tt;
+      cut = λ s st. (
+          let undone = c.in_ok-undo_wait.ensures.goes.leads s st in
+          let cleaned = c.in_ok-run_cleanups.ensures.goes.leads _ undone.stands in
+          let destructed = c.in_ok-run_destructors.ensures.goes.leads _ cleaned.stands in
+          cut_undone f c.args.t.0 c.args.value c.undo_wait.new.w s _ _ _ undone (cut_later f c.args.t.0 c.args.value c.run_cleanups.new.w s _ _ _ cleaned (cut_giving f c.args.t.0 c.args.value c.run_destructors.new.w s _ _ _ destructed
+          (cut_one _ (gives_all c.args.t.0) (dies c.args.t.0 c.args.value) _ _ (c.in_err-give_all.ensures.goes.cut _ destructed.stands)))));
+    })
 
-pub returns-clause-ok : goal.returns-clause-ok
-returns-clause-ok g c =
+pub returns-clause-goes : goal.returns-clause-goes
+returns-clause-goes g c =
     let v : SFits w64 c.args.value = search rules in
     let f = g.P.Program.functions in
     let left = simp to_z-of_z at c.leave.ensures.shows in
-    on_ok_weaker c.push.result (λ told s st.
-    let undone = c.in_ok-undo_wait.ensures.ok s st in
-    let cleaned = c.in_ok-run_cleanups.ensures.ok _ undone.stands in
-    let destructed = c.in_ok-run_destructors.ensures.ok _ cleaned.stands in
-    let gave = c.in_ok-give_all.ensures.ok _ destructed.stands in
-    let stored = ap (λ (z : WorldOf _ _ _). store_of z.store) c.leave.ensures.moves.same ∙ c.forget.ensures.changes in
-    let died = dies_leads f c.args.t.0 c.args.value c.give_all.new.w c.leave.new.self _ _ _ gave.stands (left _ (c.forget.ensures.keeps.shows _ gave.stands.control)) stored told in
-    end_leads f c.args.t.0 c.args.value c.undo_wait.new.w c.run_cleanups.new.w c.run_destructors.new.w c.give_all.new.w c.leave.new.self s _ _ _ _ _ _ undone cleaned destructed gave died) (simp to_z-of_z at c.push.ensures.ok)
-
-pub returns-clause-err : goal.returns-clause-err
-returns-clause-err g c =
-    let f = g.P.Program.functions in
-    on_err_weaker c.push.result (λ same s st.
-    let undone = c.in_ok-undo_wait.ensures.ok s st in
-    let cleaned = c.in_ok-run_cleanups.ensures.ok _ undone.stands in
-    let destructed = c.in_ok-run_destructors.ensures.ok _ cleaned.stands in
-    let gave = c.in_ok-give_all.ensures.ok _ destructed.stands in
-    cut_undone f c.args.t.0 c.args.value c.undo_wait.new.w s _ _ _ undone (cut_later f c.args.t.0 c.args.value c.run_cleanups.new.w s _ _ _ cleaned (cut_giving f c.args.t.0 c.args.value c.run_destructors.new.w s _ _ _ destructed
-    (cut_second c.give_all.new.w _ (gives_all c.args.t.0) (dies c.args.t.0 c.args.value) _ _ _ gave (cut_none _ _ _ same))))) c.push.ensures.err
+    record {
+      leads = on_ok_weaker c.push.result (λ told s st.
+          let undone = c.in_ok-undo_wait.ensures.goes.leads s st in
+          let cleaned = c.in_ok-run_cleanups.ensures.goes.leads _ undone.stands in
+          let destructed = c.in_ok-run_destructors.ensures.goes.leads _ cleaned.stands in
+          let gave = c.in_ok-give_all.ensures.goes.leads _ destructed.stands in
+          let stored = ap (λ (z : WorldOf _ _ _). store_of z.store) c.leave.ensures.moves.same ∙ c.forget.ensures.changes in
+          let died = dies_leads f c.args.t.0 c.args.value c.give_all.new.w c.leave.new.self _ _ _ gave.stands (left _ (c.forget.ensures.keeps.shows _ gave.stands.control)) stored told in
+          end_leads f c.args.t.0 c.args.value c.undo_wait.new.w c.run_cleanups.new.w c.run_destructors.new.w c.give_all.new.w c.leave.new.self s _ _ _ _ _ _ undone cleaned destructed gave died) (simp to_z-of_z at c.push.ensures.ok);
+      cut = on_err_weaker c.push.result (λ same s st.
+          let undone = c.in_ok-undo_wait.ensures.goes.leads s st in
+          let cleaned = c.in_ok-run_cleanups.ensures.goes.leads _ undone.stands in
+          let destructed = c.in_ok-run_destructors.ensures.goes.leads _ cleaned.stands in
+          let gave = c.in_ok-give_all.ensures.goes.leads _ destructed.stands in
+          cut_undone f c.args.t.0 c.args.value c.undo_wait.new.w s _ _ _ undone (cut_later f c.args.t.0 c.args.value c.run_cleanups.new.w s _ _ _ cleaned (cut_giving f c.args.t.0 c.args.value c.run_destructors.new.w s _ _ _ destructed
+          (cut_second c.give_all.new.w _ (gives_all c.args.t.0) (dies c.args.t.0 c.args.value) _ _ _ gave (cut_none _ _ _ same))))) c.push.ensures.err;
+    }
 
 pub returns-clause-frame : goal.returns-clause-frame
 returns-clause-frame g c =

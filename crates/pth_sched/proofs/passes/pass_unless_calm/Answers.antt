@@ -2,13 +2,16 @@ use Rattle.std.proofs.Common.{◌<◌, ◌∙◌, sym, arith}
 use Rattle.pth_sched.proofs.CalmWorlds.{pass_leads_nowhere, dormant_calms}
 use Rattle.pth_sched.proofs.passes.pass_unless_calm.Goals as goal
 
-pub returns-then-not-is_alone-clause-ok : goal.returns-then-not-is_alone-clause-ok
-returns-then-not-is_alone-clause-ok g c = λ s st.
-    let w = c.args.w.now in
-    let until = c.known_until-until.result in
-    let early : w.kernel.now < until = omega (arith, c.time.ensures.now, c.if-time-until.true) in
-    let some : 0 < until = omega (arith, c.if-time-until.true) in
-    pass_leads_nowhere w g.P.Program.functions s st c.requires.whole until early (c.known_until-until.ensures.dormant s st some) (sym (c.is_alone.ensures s.control st.control) ∙ c.if-not-is_alone.true) c.args.marks.now
+pub returns-then-not-is_alone-clause-goes : goal.returns-then-not-is_alone-clause-goes
+returns-then-not-is_alone-clause-goes g c = record {
+  leads = λ s st.
+      let w = c.args.w.now in
+      let until = c.known_until-until.result in
+      let early : w.kernel.now < until = omega (arith, c.time.ensures.now, c.if-time-until.true) in
+      let some : 0 < until = omega (arith, c.if-time-until.true) in
+      pass_leads_nowhere w g.P.Program.functions s st c.requires.whole until early (c.known_until-until.ensures.dormant s st some) (sym (c.is_alone.ensures s.control st.control) ∙ c.if-not-is_alone.true) c.args.marks.now;
+  cut = tt;
+}
 
 pub returns-then-not-is_alone-clause-calm : goal.returns-then-not-is_alone-clause-calm
 returns-then-not-is_alone-clause-calm g c = λ some. dormant_calms c.args.w.now c.known_until-until.result c.requires.whole (λ s st. c.known_until-until.ensures.dormant s st some)

@@ -14,13 +14,13 @@ returns-in_err-cancel_within-clause-goes g c =
     rw p.1 (record {
       next = tt;
       leads = tt;
-      cut = λ s st. rw (c.requires.call, point_ends g.P.Program.functions s c.args.t.0 (sym (c.is_asked.ensures s.control st.control) ∙ c.if-is_asked.true)) (c.in_err-cancel_within.ensures.err s st);
+      cut = λ s st. rw (c.requires.call, point_ends g.P.Program.functions s c.args.t.0 (sym (c.is_asked.ensures s.control st.control) ∙ c.if-is_asked.true)) (c.in_err-cancel_within.ensures.goes.cut s st);
     })
 
 pub returns-then-is_asked-clause-goes : goal.returns-then-is_asked-clause-goes
 returns-then-is_asked-clause-goes g c = record {
   next = λ s st. rw (c.requires.call, point_ends g.P.Program.functions s c.args.t.0 (sym (c.is_asked.ensures s.control st.control) ∙ c.if-is_asked.true)) refl;
-  leads = λ s st. rw (c.requires.call, point_ends g.P.Program.functions s c.args.t.0 (sym (c.is_asked.ensures s.control st.control) ∙ c.if-is_asked.true)) (c.in_ok-cancel_within.ensures.ok s st);
+  leads = λ s st. rw (c.requires.call, point_ends g.P.Program.functions s c.args.t.0 (sym (c.is_asked.ensures s.control st.control) ∙ c.if-is_asked.true)) (c.in_ok-cancel_within.ensures.goes.leads s st);
   cut = tt;
 }
 

@@ -23,7 +23,7 @@ use Rattle.pth_waits.proofs.conditions.cancel_await.Goals as goal
 pub returns-in_err-take_request-clause-goes : goal.returns-in_err-take_request-clause-goes
 returns-in_err-take_request-clause-goes g c =
     let p = err_from_is_err_and c.from_residual.result c.from_residual.ensures.1 in
-    rw p.1 (record { next = tt; leads = tt; cut = λ s st. cut_first _ _ _ _ ((rw (to_z-of_z c.ranges.c, to_z-of_z c.ranges.m, to_z-of_z c.ranges.e) at c.in_err-take_request.ensures.err) s st.0) })
+    rw p.1 (record { next = tt; leads = tt; cut = λ s st. cut_first _ _ _ _ ((rw (to_z-of_z c.ranges.c, to_z-of_z c.ranges.m, to_z-of_z c.ranges.e) at c.in_err-take_request.ensures.goes.cut) s st.0) })
 
 pub returns-clause-goes : goal.returns-clause-goes
 unfolding told
@@ -33,7 +33,7 @@ returns-clause-goes g c =
     let k = CondAwait c.args.c c.args.m c.args.e in
     let ring = c.extra_ring.ensures ∙ ap extra_ring (to_z-of_z c.ranges.e) in
     let hands = hands_on_seats t (record { what = Notice c.args.c; ring = extra_ring c.args.e }) in
-    let first = rw (to_z-of_z c.ranges.c, to_z-of_z c.ranges.m, to_z-of_z c.ranges.e) at c.in_ok-take_request.ensures.ok in
+    let first = rw (to_z-of_z c.ranges.c, to_z-of_z c.ranges.m, to_z-of_z c.ranges.e) at c.in_ok-take_request.ensures.goes.leads in
     finally_goes (StandsWhere c.args.w.now t true) (StandsWhere c.take_request.new.w t true) (takes_request t k) (ends_await f t hands k c.args.m Canceled) _ _ _ _ _
     (λ s st. (((first s st.0).stands, st.1), (first s st.0).tells))
     (changed_goes t c.args.m c.args.c c.args.e f Canceled hands c.take_request.new.w c.hand_on_seats.new.w _ (ends_await f t nothing k c.args.m Canceled) (ends_await f t hands k c.args.m Canceled) _ _ _ (λ s. refl) (rw (to_z-of_z c.ranges.c, ring) at c.hand_on_seats.ensures.shows) (ap (λ (z : WorldOf _ _ _). z.store) c.hand_on_seats.ensures.same) (rw (to_z-of_z c.ranges.c, to_z-of_z c.ranges.m, to_z-of_z c.ranges.e) at c.end_await.ensures.goes))

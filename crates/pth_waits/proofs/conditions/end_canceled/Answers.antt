@@ -25,6 +25,6 @@ returns-clause-goes g c =
       next = λ s st. refl;
       leads = λ s st. leads_then c.args.w.now c.end_thread.new.w s (tells (Took c.args.t (object_named c.args.m))) (ending g.P.Program.functions c.args.t.0 canceled_value) _ _ _
           (record { stands = record { control = st.control; store = st.store }; tells = took })
-          (c.in_ok-end_thread.ensures.ok _ (record { control = st.control; store = st.store }));
+          (c.in_ok-end_thread.ensures.goes.leads _ (record { control = st.control; store = st.store }));
       cut = tt;
     }

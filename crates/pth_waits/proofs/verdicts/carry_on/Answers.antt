@@ -10,7 +10,7 @@ end_thread-requires-clause-alive g c = runner_alive c.args.w.now c.args.t.0 c.re
 pub returns-in_ok-end_thread-in-Ends-clause-goes : goal.returns-in_ok-end_thread-in-Ends-clause-goes
 returns-in_ok-end_thread-in-Ends-clause-goes g c b =
     let f : SFits w64 c.in-Ends.value = search rules in
-    rw c.in-Ends.is (record { next = λ s ready. rw to_z-of_z refl; leads = λ s ready. (rw to_z-of_z at c.in_ok-end_thread-in-Ends.ensures.ok) s ready.1; cut = tt })
+    rw c.in-Ends.is (record { next = λ s ready. rw to_z-of_z refl; leads = λ s ready. (rw to_z-of_z at c.in_ok-end_thread-in-Ends.ensures.goes.leads) s ready.1; cut = tt })
 
 pub returns-in_ok-block_on-in-Blocks-clause-goes : goal.returns-in_ok-block_on-in-Blocks-clause-goes
 unfolding claims

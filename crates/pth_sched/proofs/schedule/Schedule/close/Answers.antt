@@ -4,10 +4,10 @@ use Rattle.pth_base.specs.Limits.{most_steps}
 use Rattle.pth_model.specs.State.{Scheduler}
 use Rattle.pth_sched.specs.MachineOf.{IsGoing, IsRoofed}
 use Rattle.pth_sched.specs.Running.{Stands}
-use Rattle.pth_sched.proofs.Keeping.{on_ok_three, gives_rest}
+use Rattle.pth_sched.proofs.Keeping.{gives_rest}
 use Rattle.pth_sched.proofs.Parts.{close_makes, closes_marks, turn_over}
 use Rattle.pth_sched.proofs.Roofs.{close_roofed, ready_rises}
-use Rattle.pth_sched.proofs.Going.{close_going, named_on, on_ok_four}
+use Rattle.pth_sched.proofs.Going.{close_going, named_on}
 use Rattle.pth_sched.proofs.CalmWorlds.{own_by, turn_over_calms}
 use Rattle.pth_sched.proofs.schedule.Schedule.close.Goals as goal
 
@@ -22,28 +22,31 @@ pub returns-clause-ok : goal.returns-clause-ok
 returns-clause-ok g c =
     on_ok_weaker c.pass_unless_calm.result (λ leads x st.
     let inside = subst (λ m. Stands m x) (sym c.self.view_is) st in
-    close_makes _ x inside g.P.Program.functions c.args.t.0 c.pass_unless_calm.new.w _ _ (leads _ (turn_over _ x inside c.args.t.0 c.end_turn.new.w (c.end_turn.ensures.shows x.state.control inside.world.control) c.end_turn.ensures.store))) c.pass_unless_calm.ensures.ok
+    close_makes _ x inside g.P.Program.functions c.args.t.0 c.pass_unless_calm.new.w _ _ (leads _ (turn_over _ x inside c.args.t.0 c.end_turn.new.w (c.end_turn.ensures.shows x.state.control inside.world.control) c.end_turn.ensures.store))) c.pass_unless_calm.ensures.goes.leads
 
 pub returns-clause-err : goal.returns-clause-err
 returns-clause-err g c =
     on_err_weaker c.pass_unless_calm.result (λ cut x st.
     let inside = subst (λ m. Stands m x) (sym c.self.view_is) st in
-    rw (closes_marks g.P.Program.functions x.turn c.args.t.0 x.state) (cut _ (turn_over _ x inside c.args.t.0 c.end_turn.new.w (c.end_turn.ensures.shows x.state.control inside.world.control) c.end_turn.ensures.store))) c.pass_unless_calm.ensures.err
+    rw (closes_marks g.P.Program.functions x.turn c.args.t.0 x.state) (cut _ (turn_over _ x inside c.args.t.0 c.end_turn.new.w (c.end_turn.ensures.shows x.state.control inside.world.control) c.end_turn.ensures.store))) c.pass_unless_calm.ensures.goes.cut
 
 pub returns-clause-ranks : goal.returns-clause-ranks
 returns-clause-ranks g c =
     let inside = subst (λ m. IsRoofed m) (sym c.self.view_is) c.requires.ranks in
     let over = subst (λ m. m.turn.gave ≡ Some c.args.t.0) (sym c.self.view_is) c.requires.over in
-    on_ok_three c.pass_unless_calm.result c.pass_unless_calm.ensures.ranks c.pass_unless_calm.ensures.scheduler c.pass_unless_calm.ensures.made (λ ranks scheduler made.
-    close_roofed _ _ c.args.t.0 c.end_turn.new.w inside over refl (ap (λ (x : Scheduler). x.running) scheduler.scheduler ∙ c.end_turn.ensures.running) c.end_turn.ensures.ranks c.end_turn.ensures.fresh ranks refl refl)
+    on_ok_weaker c.pass_unless_calm.result (λ wakes.
+    close_roofed _ _ c.args.t.0 c.end_turn.new.w inside over refl (ap (λ (x : Scheduler). x.running) wakes.rest.scheduler ∙ c.end_turn.ensures.running) c.end_turn.ensures.ranks c.end_turn.ensures.fresh wakes.ranks refl refl)
+    c.pass_unless_calm.ensures.only_wakes
 
 pub returns-clause-going : goal.returns-clause-going
 returns-clause-going g c =
     let inside = subst (λ m. IsGoing m) (sym c.self.view_is) c.requires.going in
     let over = subst (λ m. m.turn.gave ≡ Some c.args.t.0) (sym c.self.view_is) c.requires.over in
-    on_ok_four c.pass_unless_calm.result c.pass_unless_calm.ensures.whole c.pass_unless_calm.ensures.scheduler c.pass_unless_calm.ensures.made c.pass_unless_calm.ensures.stays (λ whole scheduler made stays.
-    let named = named_on _ _ _ c.pass_unless_calm.new.w.threads (ap (λ (x : Scheduler). x.preferred) scheduler.scheduler ∙ c.end_turn.ensures.preferred) (λ u waits. stays u (c.end_turn.ensures.stays u waits)) inside.preferred in
-    close_going _ _ inside c.args.t.0 over whole (ap (λ (x : Scheduler). x.running) scheduler.scheduler ∙ c.end_turn.ensures.running) named (λ k. gives_rest _ _ scheduler made k ∙ c.end_turn.ensures.gives k) refl refl refl)
+    on_ok_weaker c.pass_unless_calm.result (λ wakes.
+    let rest = wakes.rest in
+    let named = named_on _ _ _ c.pass_unless_calm.new.w.threads (ap (λ (x : Scheduler). x.preferred) rest.scheduler ∙ c.end_turn.ensures.preferred) (λ u waits. wakes.stays u (c.end_turn.ensures.stays u waits)) inside.preferred in
+    close_going _ _ inside c.args.t.0 over wakes.whole (ap (λ (x : Scheduler). x.running) rest.scheduler ∙ c.end_turn.ensures.running) named (λ k. gives_rest _ _ rest wakes.made k ∙ c.end_turn.ensures.gives k) refl refl refl)
+    c.pass_unless_calm.ensures.only_wakes
 
 pub pass_unless_calm-requires-clause-calm : goal.pass_unless_calm-requires-clause-calm
 pass_unless_calm-requires-clause-calm g c = λ some.

@@ -8,15 +8,15 @@ pub returns-clause-ok : goal.returns-clause-ok
 returns-clause-ok g c =
     on_ok_weaker c.pass.result (λ leads x st.
     let inside = subst (λ m. Stands m x) (sym c.self.view_is) st in
-    pass_makes _ _ g.P.Program.functions x _ _ inside refl (leads x.state inside.world)) c.pass.ensures.ok
+    pass_makes _ _ g.P.Program.functions x _ _ inside refl (leads x.state inside.world)) c.pass.ensures.goes.leads
 
 pub returns-clause-err : goal.returns-clause-err
 returns-clause-err g c =
     on_err_weaker c.pass.result (λ cut x st.
     let inside = subst (λ m. Stands m x) (sym c.self.view_is) st in
-    cut x.state inside.world) c.pass.ensures.err
+    cut x.state inside.world) c.pass.ensures.goes.cut
 
 pub returns-clause-keeps : goal.returns-clause-keeps
 returns-clause-keeps g c =
     let before = subst (λ m. Keeps m) (sym c.self.view_is) c.requires.keeps in
-    pass_keeps _ _ c.pass.result before refl c.pass.ensures.whole c.pass.ensures.scheduler c.pass.ensures.made c.pass.ensures.ranks c.pass.ensures.stays
+    pass_keeps _ _ c.pass.result before refl c.pass.ensures.only_wakes

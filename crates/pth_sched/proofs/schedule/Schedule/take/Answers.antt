@@ -1,4 +1,4 @@
-use Rattle.std.proofs.Common.{◌≡◌, ◌≤◌, ◌∙◌, arith, None, ap, refl, sym, subst, rules, SFits, w64, to_z-of_z}
+use Rattle.std.proofs.Common.{◌≡◌, ◌≤◌, ◌∙◌, None, ap, refl, sym, subst, rules, SFits, w64, to_z-of_z}
 use Rattle.std.proofs.lemmas.Result.{on_err_weaker, on_ok_weaker}
 use Rattle.pth_base.proofs.Cuts.{cut_none}
 use Rattle.pth_base.specs.Limits.{most_steps}
