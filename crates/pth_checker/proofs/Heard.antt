@@ -1,8 +1,8 @@
 -- From what was read and judged so far to what comes of one line more.
-use Rattle.std.proofs.Common.{◌≡◌, ◌∙◌, ◌⊎◌, ◌+◌, ℕ, List, [], ◌∷◌, ◌++◌, Bool, true, false, Option, Result, Ok, Err, IsErr, IsErrAnd, length, sym, ap, refl, subst, append_assoc, append-nil, inl, inr}
+use Rattle.std.proofs.Common.{◌≡◌, ◌∙◌, ◌+◌, ℕ, List, [], ◌∷◌, ◌++◌, Bool, true, false, Option, Result, Ok, Err, IsErr, IsErrAnd, sym, ap, refl, subst, append_assoc, append-nil, inl, inr}
 use Rattle.std.proofs.lemmas.Grind.{flat_map-append}
-use Rattle.std.proofs.lemmas.List.{length-append}
-use Rattle.std.proofs.lemmas.List.Elements.{All-nil, All-push}
+use Rattle.std.proofs.lemmas.List.{length_push}
+use Rattle.std.proofs.lemmas.List.Elements.{All-push}
 use Rattle.pth_transcript.specs.Plain.{IsPlain}
 use Rattle.pth_audit.specs.Verdicts.{BreaksFirst}
 use Rattle.pth_audit.specs.declared.verdict.AuditRule.{AuditRule}
@@ -26,7 +26,7 @@ use Rattle.pth_transcript.specs.declared.fault.Fault.TheVariants as fault
 use Rattle.pth_transcript.specs.declared.reader.Part.{Part}
 use Rattle.pth_transcript.specs.declared.reader.Part.TheVariants as part
 use Rattle.pth_transcript.specs.declared.told.Told.{Told}
-use Rattle.pth_transcript.proofs.Takings.{front, takes_none, takes_then, whole}
+use Rattle.pth_transcript.proofs.Takings.{front, takes_then, whole}
 
 -- what a `?` answers
 pub err_is : {T E : Type 0} (r : Result T E) (e : E) → IsErr r → IsErrAnd r (λ x. x ≡ e) → r ≡ Err e
@@ -42,19 +42,7 @@ marks_more : (told : List Told) (last : Told) → marks_of (told ++ last ∷ [])
 marks_more [] last = refl
 marks_more (t ∷ ts) last = ap (λ (ms : List Mark). t.mark ∷ ms) (marks_more ts last)
 
-length_more : (told : List Told) (last : Told) → length (told ++ last ∷ []) ≡ length told + 1
-length_more told last = length-append told (last ∷ [])
-
 -- ---- on the way
-
--- nothing was read yet
-pub heard_none : (content : Option (List ℕ)) (h : Hearing) → h.reader.unread ≡ [] → h.reader.lines ≡ 0 → Judges h.judge [] → HasHeard content h content []
-heard_none content h none zero judges = record {
-  taken = subst (λ (u : List ℕ). Takes (ahead [] content) (ahead u content) []) (sym none) (takes_none (ahead [] content));
-  plain = All-nil IsPlain;
-  counted = zero;
-  judges = judges;
-}
 
 -- one line more was read
 read_more : (content left later : Option (List ℕ)) (h after : Hearing) (told : List Told) (part : Part) → HasHeard content h left told
@@ -91,7 +79,7 @@ heard_more content left h after told last read same judges = record {
   taken = subst (λ (u : List ℕ). Takes (ahead [] content) (ahead u left) (told_lines (told ++ last ∷ []))) (sym (ap (λ r. r.unread) same))
       (subst (Takes (ahead [] content) (ahead h.reader.unread left)) (sym (lines_more told last)) read.taken);
   plain = All-push IsPlain told last read.plain read.part_plain;
-  counted = ap (λ r. r.lines) same ∙ read.counted ∙ sym (length_more told last);
+  counted = ap (λ r. r.lines) same ∙ read.counted ∙ sym (length_push told last);
   judges = subst (Judges after.judge) (sym (marks_more told last)) judges;
 }
 
@@ -141,11 +129,6 @@ module _ (content left : Option (List ℕ)) (h : Hearing) (told : List Told) whe
   not_read fault.OutOfMemory heard comes = tt
   not_read fault.Words heard comes = comes
   not_read fault.WriteFault heard comes = comes
-
--- a fault of a read behind the ending
-pub not_read_behind : (content : Option (List ℕ)) (f : Fault) → (f ≡ fault.ReadFault) ⊎ (f ≡ fault.OutOfMemory) → ComesTo content (Err f)
-not_read_behind content f (inl same) = subst (λ (g : Fault). ComesTo content (Err g)) (sym same) tt
-not_read_behind content f (inr same) = subst (λ (g : Fault). ComesTo content (Err g)) (sym same) tt
 
 -- what comes of a line by whether there is a verdict
 pub goes_on_as : (content left : Option (List ℕ)) (h : Hearing) (found is : Option Verdict) → found ≡ is → GoesOn content h left (Ok found) → GoesOn content h left (Ok is)

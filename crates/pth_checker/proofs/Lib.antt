@@ -3,3 +3,4 @@ pub mod Alive
 pub mod Parsed
 pub mod Heard
 pub mod Opened
+pub mod ReadWell

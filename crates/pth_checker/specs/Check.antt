@@ -1,5 +1,5 @@
 -- What `pth_check` does, by its status.
-use Rattle.std.specs.Prelude.{◌≡◌, ◌≢◌, ◌≤◌, ◌⊎◌, ℕ, List, Option, Some, None, IsSomeAnd, Result, Ok, Err, codes}
+use Rattle.std.specs.Prelude.{◌≡◌, ◌≢◌, ◌≤◌, ◌⊎◌, ℕ, List, Option, Some, None, IfSome, IsSomeAnd, Result, Ok, Err, codes}
 use Rattle.std.specs.Io.KnownBytes.{Appends}
 use Rattle.pth_checker.specs.Judged.{HoldsUpTo, HoldsVerdict}
 use Rattle.pth_checker.specs.VerdictLines.{verdict_line, verdict_status}
@@ -9,15 +9,20 @@ use Rattle.pth_streams.specs.Inputs.{Inputs}
 use Rattle.pth_streams.specs.Pieces.{AppendsPart, AppendsPrefix, IsUnwritten, Received, WritesLine}
 use Rattle.pth_streams.specs.Scene.{Scene}
 use Rattle.pth_transcript.specs.FaultLines.{Reports, fault_line, fault_status}
+use Rattle.pth_transcript.specs.Reading.{CountsFault}
 use Rattle.pth_transcript.specs.Taking.{OtherStays, content_under, is_file, of_read}
 use Rattle.pth_transcript.specs.declared.fault.Fault.{Fault}
 use Rattle.pth_transcript.specs.declared.fault.Fault.TheVariants as fault
 
 -- ---- the object that is read
 
--- one fault was counted of the object that stands under a name
+-- the count of faults of the object that stands under a name
+abbrev pub faults_under : Option (List ℕ) → Inputs → ℕ
+faults_under name ins = of_read (is_file name) ins.faults ins.file_faults
+
+-- one fault of it was counted
 abbrev pub ReadRose : Option (List ℕ) → Inputs → Inputs → Type 0
-ReadRose name old new = Rose (of_read (is_file name) old.faults old.file_faults) (of_read (is_file name) new.faults new.file_faults)
+ReadRose name old new = Rose (faults_under name old) (faults_under name new)
 
 -- of the input and the files, what is not read is as it was; nothing is read if the words are refused
 abbrev pub OthersStay : {S F : Type 0} → Option (Option (List ℕ)) → S → S → F → F → Type 0
@@ -62,6 +67,11 @@ Ran (Some name) old new r = RanFor name old new r
 Ran None old new (Err fault.Words) = IsUnwritten old.out new.out
 Ran None old new (Err fault.OutOfMemory) = IsUnwritten old.out new.out
 Ran None old new r = ⊥
+
+-- a fault of the object that is read is counted, and there is none besides
+abbrev pub CountsRead : Option (Option (List ℕ)) → Inputs → Inputs → Result Verdict Fault → Type 0
+CountsRead (Some name) old new r = CountsFault (faults_under name old) (faults_under name new) r
+CountsRead None old new r = Unit {0}
 
 -- the name of the program
 abbrev pub program : List ℕ
@@ -126,6 +136,11 @@ abbrev pub RunsOut : CheckCall → Type 0
 RunsOut call =
     (IsUnwritten call.old.out call.new.out ⊎ IsSomeAnd call.asked (λ name. BeginsVerdict name call.old call.new))
     × ((f : Fault) × AppendsPrefix call.err_old.written call.err_new.written (fault_line program f))
+
+-- with a status other than 4 and 7 no read failed
+abbrev pub ReadsWell : Option (Option (List ℕ)) → (status : ℕ) → Inputs → Inputs → Type 0
+ReadsWell asked status old new =
+    status ≢ 4 → status ≢ 7 → IfSome asked (λ name. faults_under name new ≡ faults_under name old)
 
 -- what the call did by its status
 pub record Checks (call : CheckCall) : Type 0 where

@@ -1,7 +1,7 @@
 //! The words, the verdict and its line.
 
 ghost use Rattle.std.specs.Prelude.{◌≡◌, map, string_bytes};
-ghost use Rattle.pth_checker.specs.Check.{OthersStay, Ran, RanFor};
+ghost use Rattle.pth_checker.specs.Check.{CountsRead, OthersStay, Ran, RanFor};
 ghost use Rattle.pth_checker.specs.Hearing.{ComesTo};
 ghost use Rattle.pth_checker.specs.VerdictLines.{verdict_line};
 ghost use Rattle.pth_checker.specs.Words.{asked_by, name_of};
@@ -65,6 +65,8 @@ fn run_for<S: Source, F: Files, O: Sink>(
         (F.left files.new) (F.held files.new) (F.faults files.new))
         (received (O.written out.new) (O.faults out.new)))
         result }
+    ensures counts { CountsFault (of_read (is_file (name_of name.entry)) (S.faults input.old) (F.faults files.old))
+        (of_read (is_file (name_of name.entry)) (S.faults input.new) (F.faults files.new)) result }
     ensures other { OtherStays (is_file (name_of name.entry)) input.old input.new files.old files.new }
 {
     let verdict = judged(alloc, name, input, files)?;
@@ -91,6 +93,9 @@ pub(crate) fn run<S: Source, F: Files, O: Sink>(
         (F.left files.new) (F.held files.new) (F.faults files.new))
         (received (O.written out.new) (O.faults out.new)))
         result }
+    ensures counts { CountsRead (asked_by (map string_bytes words.now.items))
+        (inputs (S.left input.old) (S.faults input.old) (F.left files.old) (F.held files.old) (F.faults files.old))
+        (inputs (S.left input.new) (S.faults input.new) (F.left files.new) (F.held files.new) (F.faults files.new)) result }
     ensures others { OthersStay (asked_by (map string_bytes words.now.items)) input.old input.new files.old files.new }
 {
     let name = read_words(alloc, words)?;

@@ -1,7 +1,7 @@
 //! The top call.
 
 ghost use Rattle.std.specs.Prelude.{◌≤◌, map, string_bytes};
-ghost use Rattle.pth_checker.specs.Check.{Checks, Ends, OthersStay};
+ghost use Rattle.pth_checker.specs.Check.{Checks, Ends, OthersStay, ReadsWell};
 ghost use Rattle.pth_checker.specs.Words.{asked_by};
 ghost use Rattle.pth_streams.specs.Inputs.{inputs};
 ghost use Rattle.pth_streams.specs.Pieces.{received};
@@ -46,6 +46,9 @@ pub fn check<S: Source, F: Files, O: Sink, E: Sink>(
 ) -> u8
     ensures status { result ≤ 7 }
     ensures others { OthersStay (asked_by (map string_bytes words.now.items)) input.old input.new files.old files.new }
+    ensures reads_well { ReadsWell (asked_by (map string_bytes words.now.items)) result
+        (inputs (S.left input.old) (S.faults input.old) (F.left files.old) (F.held files.old) (F.faults files.old))
+        (inputs (S.left input.new) (S.faults input.new) (F.left files.new) (F.held files.new) (F.faults files.new)) }
     ensures checks { Checks (record {
       asked = asked_by (map string_bytes words.now.items);
       old = scene (inputs (S.left input.old) (S.faults input.old)

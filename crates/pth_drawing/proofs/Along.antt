@@ -1,8 +1,7 @@
 -- A transcript, drawn line by line.
-use Rattle.std.proofs.Common.{◌≡◌, ◌∙◌, ◌+◌, ℕ, List, [], ◌∷◌, ◌++◌, Option, ap, sym, subst, arith, append-nil, flat_map, length, length-append, map}
+use Rattle.std.proofs.Common.{◌≡◌, ◌∙◌, ◌+◌, ℕ, List, [], ◌∷◌, ◌++◌, Option, ap, sym, subst, arith, append-nil, inl, inr, length-append}
 use Rattle.std.proofs.lemmas.Grind.{flat_map-append}
-use Rattle.std.proofs.lemmas.List.{length-map, map-append}
-use Rattle.std.proofs.lemmas.List.Folds.{flat_map-map}
+use Rattle.std.proofs.lemmas.List.{map-append}
 use Rattle.std.proofs.lemmas.List.Elements.{All-nil, All-push}
 use Rattle.pth_transcript.specs.Plain.{IsPlain}
 use Rattle.pth_base.specs.declared.mark.Mark.{Mark as MarkOf}
@@ -16,7 +15,7 @@ use Rattle.pth_transcript.specs.declared.fault.Fault.TheVariants as fault
 use Rattle.pth_transcript.specs.declared.reader.Part.{Part}
 use Rattle.pth_transcript.specs.declared.reader.Part.TheVariants as part
 use Rattle.pth_transcript.specs.declared.told.Told.{Told}
-use Rattle.pth_drawing.specs.Draw.{IsMade, StopsAt}
+use Rattle.pth_drawing.specs.Draw.{GoesOnAt, IsMade, StopsAt}
 use Rattle.pth_drawing.specs.Follow.{Draws}
 use Rattle.pth_drawing.specs.Taken.{HasDrawn, IsAlong}
 use Rattle.pth_drawing.specs.declared.drawing.Drawing.{Drawing}
@@ -34,15 +33,6 @@ begins d from turns left unread lines none zero draws = record {
 
 lines_more : (told : List Told) (t : Told) → told_lines told ++ told_line t ≡ told_lines (told ++ t ∷ [])
 lines_more told t = sym (flat_map-append told_line told (t ∷ []) ∙ ap (λ (l : List ℕ). told_lines told ++ l) (append-nil (told_line t)))
-
--- the lines of marks, as lines of a transcript
-lines_of : (told : List Told) → flat_map part_line (map part.Mark told) ≡ told_lines told
-lines_of told = flat_map-map part_line part.Mark told
-
-whole_lines : (told : List Told) (e : Ending) → flat_map part_line (map part.Mark told ++ part.Ending e ∷ []) ≡ told_lines told ++ ending_line e
-whole_lines told e =
-    flat_map-append part_line (map part.Mark told) (part.Ending e ∷ [])
-    ∙ ap (λ (l : List ℕ). l ++ (ending_line e ++ [])) (lines_of told) ∙ ap (λ (l : List ℕ). told_lines told ++ l) (append-nil (ending_line e))
 
 module _ (from turns : ℕ) (a b c : Ahead) (n m : ℕ) where
   -- one mark more is drawn
@@ -70,31 +60,30 @@ module _ (from turns : ℕ) (a b c : Ahead) (n m : ℕ) where
         count = let so_far = along.count in omega arith;
       }
 
--- the reader came to a fault behind these lines
-stopped : (content : Option (List ℕ)) (c : Ahead) (lines : List Part) (n : ℕ) (f : Fault) → Takes (ahead [] content) c (flat_map part_line lines)
-    → n ≡ length lines → ComesTo n f → StopsAt content f
-stopped content c lines n (fault.NoTranscript line) takes count comes =
-    let begun = front content c (flat_map part_line lines) takes in
-    record { bytes = begun.0; held = begun.2; goes_on = record { lines = lines; rest = begun.1; whole = begun.3; number = comes ∙ ap next_line count } }
-stopped content c lines n fault.ReadFault takes count comes = tt
-stopped content c lines n fault.OutOfMemory takes count comes = tt
-stopped content c lines n fault.Words takes count comes = absurd comes
-stopped content c lines n fault.WriteFault takes count comes = absurd comes
+-- the reader came to a fault behind this text
+stopped : (content : Option (List ℕ)) (c : Ahead) (text : List ℕ) (n : ℕ) (f : Fault) → Takes (ahead [] content) c text → ComesTo n f
+    → ((bytes rest : List ℕ) (line : ℕ) → bytes ≡ text ++ rest → line ≡ next_line n → GoesOnAt bytes line) → StopsAt content f
+stopped content c text n (fault.NoTranscript line) takes comes goes_on =
+    let begun = front content c text takes in
+    record { bytes = begun.0; held = begun.2; goes_on = goes_on begun.0 begun.1 line begun.3 comes }
+stopped content c text n fault.ReadFault takes comes goes_on = tt
+stopped content c text n fault.OutOfMemory takes comes goes_on = tt
+stopped content c text n fault.Words takes comes goes_on = absurd comes
+stopped content c text n fault.WriteFault takes comes goes_on = absurd comes
 
 module _ (d : Drawing) (from turns : ℕ) (content : Option (List ℕ)) (c : Ahead) (n : ℕ) where
   -- on the way
   pub stops : (f : Fault) → IsAlong d from turns (ahead [] content) c n → ComesTo n f → StopsAt content f
   stops f along comes =
-      stopped content c (map part.Mark along.told) n f (subst (Takes (ahead [] content) c) (sym (lines_of along.told)) along.takes)
-      (let many = length-map along.told part.Mark in let so_far = along.count in omega arith) comes
+      stopped content c (told_lines along.told) n f along.takes comes
+      (λ bytes rest line whole number. inl (record { told = along.told; rest = rest; plain = along.plain; whole = whole; number = number ∙ ap next_line along.count }))
 
   -- behind the line of the ending
   pub stops_behind : (f : Fault) → HasDrawn d from turns (ahead [] content) c n → ComesTo n f → StopsAt content f
   stops_behind f drawn comes =
-      stopped content c (map part.Mark drawn.told ++ part.Ending drawn.ending ∷ []) n f
-      (subst (Takes (ahead [] content) c) (sym (whole_lines drawn.told drawn.ending)) drawn.takes)
-      (let many = length-map drawn.told part.Mark in let one = length-append (map part.Mark drawn.told) (part.Ending drawn.ending ∷ []) in let so_far = drawn.count in omega arith)
-      comes
+      stopped content c (told_lines drawn.told ++ ending_line drawn.ending) n f drawn.takes comes
+      (λ bytes rest line whole number.
+      inr (record { told = drawn.told; ending = drawn.ending; rest = rest; plain = drawn.plain; whole = whole; number = number ∙ ap next_line drawn.count }))
 
   -- nothing comes behind it, so the content is a transcript, whose marks were drawn
   pub made : {T : Type 0} (Is : List MarkOf → T → Type 0) (x : T) (e : Ahead) → HasDrawn d from turns (ahead [] content) c n → IsOver c e

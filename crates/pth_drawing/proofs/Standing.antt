@@ -30,14 +30,6 @@ there_if true c = or-true c
 there_if false c = sym (or-false c)
 
 module _ (t columns : ℕ) (x : TrackSeen) where
-  by_test : {A : Type 0} (f : TrackSeen → A) (b : Bool) (y : TrackSeen) → f (if b then y else x) ≡ (if b then f y else f x)
-  by_test f true y = refl
-  by_test f false y = refl
-
-  same_both : {A : Type 0} (b : Bool) (a : A) → (if b then a else a) ≡ a
-  same_both true a = refl
-  same_both false a = refl
-
   -- what news leaves as it was
   kept : {A : Type 0} (f : TrackSeen → A) (b : Bool) (y : TrackSeen) → f y ≡ f x → f (if b then y else x) ≡ f x
   kept f true y is = is

@@ -20,10 +20,6 @@ heard_push m (y ∷ z ∷ zs) x = ap (λ (l : List Turn). y ∷ l) (heard_push m
 
 -- ---- a Dispatch
 
--- the marks up to the next Dispatch, if the first mark dispatches a thread or not
-up_to_at : (o : Option ℕ) (m : Mark) (ms : List Mark) → List Mark
-up_to_at o m ms = if is_some o then [] else m ∷ up_to_dispatch ms
-
 up_to_dispatched : (ms : List Mark) (m : Mark) (t : ℕ) → dispatched m ≡ Some t → up_to_dispatch (ms ++ m ∷ []) ≡ up_to_dispatch ms
 unfolding up_to_dispatch
 up_to_dispatched [] m t is = ap (λ (o : Option ℕ). if is_some o then [] else m ∷ []) is

@@ -1,5 +1,5 @@
 -- The clauses of the top call.
-use Rattle.std.specs.Prelude.{◌≡◌, ◌≢◌, ◌⊎◌, ◌++◌, ℕ, List, [], flat_map, length, Option, Some, None, IfSome, Result, Ok, Err, codes}
+use Rattle.std.specs.Prelude.{◌≡◌, ◌≢◌, ◌⊎◌, ◌++◌, ◌+◌, ℕ, List, [], length, Option, Some, None, IfSome, Result, Ok, Err, codes}
 use Rattle.std.specs.Io.KnownBytes.{Appends}
 use Rattle.pth_base.specs.declared.mark.Mark.{Mark}
 use Rattle.pth_streams.specs.Faults.{Rose}
@@ -9,13 +9,12 @@ use Rattle.pth_streams.specs.Scene.{Scene}
 use Rattle.pth_transcript.specs.FaultLines.{Reports, fault_line, fault_status}
 use Rattle.std.specs.List.{All}
 use Rattle.pth_transcript.specs.Plain.{IsPlain}
-use Rattle.pth_transcript.specs.Reading.{CountsFault, next_line, part_line}
+use Rattle.pth_transcript.specs.Reading.{CountsFault, next_line}
 use Rattle.pth_transcript.specs.Taking.{OtherStays, content_under, is_file, of_read}
 use Rattle.pth_transcript.specs.Transcript.{ending_line, marks_of, told_lines}
 use Rattle.pth_transcript.specs.declared.ending.Ending.{Ending}
 use Rattle.pth_transcript.specs.declared.fault.Fault.{Fault}
 use Rattle.pth_transcript.specs.declared.fault.Fault.TheVariants as fault
-use Rattle.pth_transcript.specs.declared.reader.Part.{Part}
 use Rattle.pth_transcript.specs.declared.told.Told.{Told}
 use Rattle.pth_drawing.specs.Drawing.{chart}
 use Rattle.pth_drawing.specs.Picture.{picture_of}
@@ -37,12 +36,26 @@ pub record IsTranscript (bytes : List ℕ) (told : List Told) : Type 0 where
   pub plain : All IsPlain told
   pub whole : bytes ≡ told_lines told ++ ending_line ending
 
--- a text begins with lines of a transcript, and the one after them has this number
-pub record GoesOnAt (bytes : List ℕ) (line : ℕ) : Type 0 where
-  pub lines : List Part
+-- a text begins with the lines of marks, and the one after them has this number
+pub record GoesOnInMarks (bytes : List ℕ) (line : ℕ) : Type 0 where
+  pub told : List Told
   pub rest : List ℕ
-  pub whole : bytes ≡ flat_map part_line lines ++ rest
-  pub number : line ≡ next_line (length lines)
+  pub plain : All IsPlain told
+  pub whole : bytes ≡ told_lines told ++ rest
+  pub number : line ≡ next_line (length told)
+
+-- a text begins with a whole transcript, and the line after it has this number
+pub record GoesOnBehindEnding (bytes : List ℕ) (line : ℕ) : Type 0 where
+  pub told : List Told
+  pub ending : Ending
+  pub rest : List ℕ
+  pub plain : All IsPlain told
+  pub whole : bytes ≡ (told_lines told ++ ending_line ending) ++ rest
+  pub number : line ≡ next_line (length told + 1)
+
+-- the line with this number is the first that is not taken
+abbrev pub GoesOnAt : (bytes : List ℕ) → (line : ℕ) → Type 0
+GoesOnAt bytes line = GoesOnInMarks bytes line ⊎ GoesOnBehindEnding bytes line
 
 -- a content is a transcript, and this was made of its marks
 pub record IsMade {T : Type 0} (Is : List Mark → T → Type 0) (content : Option (List ℕ)) (x : T) : Type 0 where
