@@ -36,10 +36,6 @@ takes_then a b c text more p q = record {
       ∙ append_assoc text b.unread q.read ∙ ap (λ (l : List ℕ). text ++ l) q.taken ∙ sym (append_assoc text more c.unread);
 }
 
--- more of the same that was unread
-pub takes_again : (a b c : Ahead) (text : List ℕ) → Takes a b [] → Takes b c text → Takes a c text
-takes_again a b c text p q = takes_then a b c [] text p q
-
 -- ---- the content of what is read
 
 held_whole : (content after : Option (List ℕ)) (read text : List ℕ) → Consumes content after read → IsAtEnd after → read ≡ text
