@@ -2,7 +2,7 @@
 use Rattle.std.proofs.Common.{◌≡◌, ◌≢◌, ℕ, zero, suc, ◌+◌, ◌<◌, ◌≤◌, ◌⊎◌, ◌==◌, Bool, true, false, List, [], ◌∷◌, drop, length, Option, Some, None, refl, sym, ap, ap₂, ◌∙◌, arith, subst, inl, inr, if◌then◌else◌, min}
 use Rattle.std.proofs.lemmas.Bool.{cases_lt}
 use Rattle.std.proofs.lemmas.List.{drop_all}
-use Rattle.std.proofs.lemmas.Bool.Decides.{nat_tests}
+use Rattle.pth_base.proofs.Tables.{same_means}
 use Rattle.pth_text.specs.Bytes.{code}
 use Rattle.pth_script.specs.TextRows.{TextRow, text_rows, onto_first}
 use Rattle.pth_snapshot.specs.Loading.{row_at, DifferFirstAt}
@@ -130,14 +130,11 @@ other_first x y true false hx hy other e = cc
 other_first x y false true hx hy other e = cc
 other_first x y false false hx hy other e = other cc
 
-is_that : (x y : ℕ) → (x == y) ≡ true → x ≡ y
-is_that x y h = grind (arith, nat_tests)
-
 pub other_byte : (x y : ℕ) (a b : List ℕ) → x ≢ y → DifferBehind (x ∷ a) (y ∷ b) 0
 unfolding text_rows
 other_byte x y a b other = record {
   above = λ i low. absurd (omega (arith, low));
-  here = λ e. other_first x y (x == code "\n") (y == code "\n") (is_that x (code "\n")) (is_that y (code "\n")) other (sym (first_of x (x == code "\n") (text_rows a)) ∙ ap first_byte e ∙ first_of y (y == code "\n") (text_rows b));
+  here = λ e. other_first x y (x == code "\n") (y == code "\n") (same_means x (code "\n")) (same_means y (code "\n")) other (sym (first_of x (x == code "\n") (text_rows a)) ∙ ap first_byte e ∙ first_of y (y == code "\n") (text_rows b));
 }
 
 -- ---- the texts from a place on
@@ -147,9 +144,6 @@ pub record Leaves (a b : List ℕ) (i lines : ℕ) : Type 0 where
   pub few : lines ≤ i
   pub rest : (n : ℕ) → DifferBehind (drop i a) (drop i b) n → DifferBehind a b (n + lines)
   pub apart : drop i a ≢ drop i b
-
-pub leaves_all : (a b : List ℕ) → a ≢ b → Leaves a b 0 0
-leaves_all a b other = record { few = omega arith; rest = λ n d. subst (λ k. DifferBehind a b k) (let e : n ≡ n + 0 = omega arith in e) d; apart = other }
 
 -- one more byte that is the same
 pub leaves_more : (a b : List ℕ) (i lines more x : ℕ) → drop i a ≡ x ∷ drop (i + 1) a → drop i b ≡ x ∷ drop (i + 1) b → more ≡ lines + (if x == code "\n" then 1 else 0)

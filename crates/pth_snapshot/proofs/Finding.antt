@@ -1,6 +1,6 @@
 -- A place is one part of a run, and what was saved there is found.
 use Rattle.std.proofs.Common.{◌≡◌, ◌⊎◌, ℕ, zero, suc, ◌≤◌, List, Option, Some, None, is_some, Result, Ok, Err, refl, sym, ap, ap₂, ◌∙◌, arith, subst, inl, inr}
-use Rattle.pth_base.specs.Limits.{last_moment}
+use Rattle.pth_base.specs.Limits.{last_moment, most_steps}
 use Rattle.pth_base.specs.Program.{Functions}
 use Rattle.pth_base.specs.declared.mark.Mark.TheVariants.{Moved}
 use Rattle.pth_base.specs.declared.outcome.Outcome.TheVariants.{Running}
@@ -8,6 +8,7 @@ use Rattle.pth_kernel.specs.Kernel.{Kernel}
 use Rattle.pth_line.specs.Script.{Sections, functions_of}
 use Rattle.pth_line.specs.declared.cells.Cells.{Cells}
 use Rattle.pth_line.specs.declared.frame.Frame.{Frame}
+use Rattle.pth_model.specs.Course.{Course}
 use Rattle.pth_model.specs.Changes.{moves_to, sets, leaves_queue, trails}
 use Rattle.pth_model.specs.Part.{Part, Move, Take, Step, Close, Halt, next_part, part, part_by, moves, moves_by, takes, takes_by, readies_new, dispatches, runs, steps, closes, turn_ends}
 use Rattle.pth_model.specs.Pass.{moment}
@@ -18,7 +19,7 @@ use Rattle.pth_model.proofs.Runs.{goes-once}
 use Rattle.pth_script.specs.TextRows.{text_rows}
 use Rattle.pth_script.proofs.Once.{not_both, one_script, one_kernel, one_top}
 use Rattle.pth_sched.specs.MachineOf.{MachineOf}
-use Rattle.pth_sched.specs.Running.{StandsAt}
+use Rattle.pth_sched.specs.Running.{Stands, StandsAt, IsAtStep, IsBetweenTurns}
 use Rattle.pth_sched.proofs.Stopping.{pass_kernel}
 use Rattle.pth_sched.proofs.Times.{IsLater, moment_later, readied_kernel, step_at}
 use Rattle.pth_snapshot.specs.Dump.{dump}
@@ -29,6 +30,7 @@ use Rattle.pth_snapshot.specs.declared.load.LoadErr.TheVariants as err
 use Rattle.pth_snapshot.specs.declared.place.Kind.{Kind}
 use Rattle.pth_snapshot.specs.declared.place.Kind.TheVariants as kind
 use Rattle.pth_snapshot.specs.declared.place.Place.{Place}
+use Rattle.pth_snapshot.proofs.Leading.{savable_there}
 use Rattle.pth_snapshot.proofs.Named.{dump_names}
 use Rattle.pth_snapshot.proofs.Parts.{part_is_place}
 
@@ -160,3 +162,9 @@ module _ (input : List ℕ) (g : Given Sections) (i : ℕ) (a : Gives input g) (
   found (Err (err.Refused line)) refused =
       absurd (not_refused_by (named_place text) line refl (subst (λ h. IsRefusedSnapshot functions_of h text line) (gives_once input g refused.0 a refused.1) refused.2))
   found (Err err.OutOfMemory) tt = refl
+
+-- what a machine wrote between two calls is found
+pub found_of : (input saved : List ℕ) (g : Given Sections) (i : ℕ) (m : MachineOf Sections Frame Cells) → Gives input g → StandsAt functions_of g i m → IsAtStep m ⊎ IsBetweenTurns m → m.turn.steps ≤ most_steps
+    → ((c : Course Sections Frame Cells) → Stands m c → saved ≡ dump c) → (r : Result (MachineOf Sections Frame Cells) LoadErr) → IsLoaded input saved r → IsFound g i r
+found_of input saved g i m gives st rests few is r loaded =
+    found input g i gives (savable_there functions_of g i m st rests few) r (subst (λ text. IsLoaded input text r) (is (run functions_of g i) st) loaded)

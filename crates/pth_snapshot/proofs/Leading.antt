@@ -1,13 +1,14 @@
 -- How a machine is led to a place.
 use Rattle.std.proofs.Common.{◌≡◌, ◌≢◌, ◌⊎◌, ℕ, zero, suc, ◌+◌, ◌-◌, ◌<◌, ◌≤◌, ◌&&◌, nat_lt, not, Bool, true, false, List, [], Option, Some, None, IsSome, refl, sym, ap, ◌∙◌, arith, subst, inl, inr}
 use Rattle.std.proofs.lemmas.Bool.Decides.{nat_tests}
+use Rattle.pth_base.specs.Limits.{most_steps}
 use Rattle.pth_base.specs.Program.{Functions}
 use Rattle.pth_base.specs.declared.mark.Mark.{Mark}
 use Rattle.pth_base.specs.declared.outcome.Outcome.{Outcome}
 use Rattle.pth_base.specs.declared.outcome.Outcome.TheVariants.{Running, Stalled}
 use Rattle.pth_kernel.specs.Kernel.{Kernel}
 use Rattle.pth_model.specs.Course.{Course}
-use Rattle.pth_model.specs.Part.{Move, next_part_by, moves, is_idle}
+use Rattle.pth_model.specs.Part.{Move, Close, next_part_by, moves, is_idle}
 use Rattle.pth_model.specs.Pass.{moment}
 use Rattle.pth_model.specs.Run.{run, stops, stops_at, GoesUntil, GoesTo, TurnsTo}
 use Rattle.pth_model.specs.State.{Given, Scheduler, Turn, now_of}
@@ -16,9 +17,9 @@ use Rattle.pth_world.specs.Sound.{IsSound}
 use Rattle.pth_world.specs.StateOf.{state_of}
 use Rattle.pth_world.proofs.StateOf.{stands_for_state}
 use Rattle.pth_sched.specs.MachineOf.{MachineOf}
-use Rattle.pth_sched.specs.Running.{Stands, StandsAt, Makes, GoesOn, TurnGoesOn, MakesPart, IsAtStep, IsBetweenTurns}
+use Rattle.pth_sched.specs.Running.{Stands, StandsAt, Makes, GoesOn, TurnGoesOn, IsAtStep, IsBetweenTurns}
 use Rattle.pth_snapshot.specs.Leading.{ComesTo, IsOpened, Arrives, IsLed}
-use Rattle.pth_snapshot.specs.Place.{OpensAt, LeadsTo, leads_by, has_come, has_come_by}
+use Rattle.pth_snapshot.specs.Place.{OpensAt, LeadsTo, leads_by, has_come, has_come_by, IsSavable}
 use Rattle.pth_snapshot.specs.declared.place.Kind.{Kind}
 use Rattle.pth_snapshot.specs.declared.place.Kind.TheVariants as kind
 use Rattle.pth_snapshot.specs.declared.place.Place.{Place}
@@ -56,9 +57,6 @@ module _ {P S H : Type 0} (f : P → Functions S H) (g : Given P) where
     pub stands : StandsAt f g part m
     pub rest : (j : ℕ) → GoesTo f g to part j → GoesTo f g to i j
 
-  pub way_start : (to i : ℕ) (m : MachineOf P S H) → StandsAt f g i m → IsOnWay to i m
-  way_start to i m st = record { part = i; stands = st; rest = λ j goes. goes }
-
   pub way_more : (to i next : ℕ) (m v : MachineOf P S H) (old new : List Mark) → (w : IsOnWay to i m) → next ≤ to → GoesOn f g next w.part v old new → IsOnWay to i v
   way_more to i next m v old new w le goes = record {
     part = goes.part;
@@ -88,9 +86,6 @@ module _ {P S H : Type 0} (f : P → Functions S H) (g : Given P) where
   opens_by : (steps k : ℕ) → 1 ≤ steps → (h : ℕ) → GoesTo f g (steps - 1) 0 h → TurnsTo f g steps h k → OpensAt f g steps k
   opens_by zero k some h goes turns = absurd (omega arith)
   opens_by (suc n) k some h goes turns = (h, subst (λ m. GoesTo f g m 0 h) (let e : suc n - 1 ≡ n = omega arith in e) goes, turns)
-
-  pub opened_start : (steps : ℕ) (m : MachineOf P S H) → steps ≡ 0 → StandsAt f g 0 m → IsOpened f g steps m
-  opened_start steps m none st = (0, subst (λ n. OpensAt f g n 0) (sym none) refl, st)
 
   pub opened_turn : (steps made : ℕ) (m v : MachineOf P S H) (old new : List Mark) → 1 ≤ steps → made ≡ steps → (c : ComesTo f g (stops_at f g (steps - 1)) 0 m) → TurnGoesOn f g made c.0 v old new → IsOpened f g steps v
   opened_turn steps made m v old new some same c turns = (turns.part, opens_by steps turns.part some c.0 c.1 (subst (λ n. TurnsTo f g n c.0 turns.part) same turns.goes), turns.stands)
@@ -145,21 +140,6 @@ module _ {P S H : Type 0} (f : P → Functions S H) (g : Given P) where
     pub stands : StandsAt f g part m
     pub first : (k : ℕ) → i ≤ k → k < part → has_come f g moment k ≡ false
 
-  pub waiting_start : (moment i : ℕ) (m : MachineOf P S H) → StandsAt f g i m → IsWaiting moment i m
-  waiting_start moment i m st = record { part = i; later = omega arith; stands = st; first = λ k from low. absurd (omega (arith, from, low)) }
-
-  pub waiting_more : (moment i : ℕ) (m v : MachineOf P S H) (old new : List Mark) → (w : IsWaiting moment i m) → has_come f g moment w.part ≡ false → MakesPart f g w.part v old new → IsWaiting moment i v
-  waiting_more moment i m v old new w on made = record {
-    part = w.part + 1;
-    later = omega (arith, w.later);
-    stands = made.stands;
-    first = none-more (has_come f g moment) i w.part w.first on;
-  }
-
-  pub waiting_over : (moment i : ℕ) (m : MachineOf P S H) → m.turn.outcome ≡ Running → (w : IsWaiting moment i m) → has_come f g moment w.part ≡ true
-      → (j : ℕ) × GoesUntil (has_come f g moment) i j × Arrives f g j Running m
-  waiting_over moment i m goes w come = (w.part, record { later = w.later; here = come; first = w.first }, record { outcome = outcome_there m (run f g w.part) w.stands ∙ goes; stands = λ e. w.stands })
-
   come_ended : (m i : ℕ) → (run f g i).turn.outcome ≢ Running → has_come f g m i ≡ true
   come_ended m i ended = rw (halted f g i ended) refl
 
@@ -185,9 +165,6 @@ module _ {P S H : Type 0} (f : P → Functions S H) (g : Given P) where
   by_kind : (p : Place) (k : Kind) (i : ℕ) → p.kind ≡ k → leads_by f g k p i → LeadsTo f g p i
   by_kind p k i is leads = subst (λ k. leads_by f g k p i) (sym is) leads
 
-  pub led_step : (p : Place) (o : Outcome) (m : MachineOf P S H) → p.kind ≡ kind.Step → o ≡ m.turn.outcome → ComesTo f g (stops_at f g p.steps) 0 m → IsLed f g p o m
-  led_step p o m is outcome c = (c.0, by_kind p kind.Step c.0 is c.1, arrives_there c.0 o m outcome c.2)
-
   pub led_on : (p : Place) (o : Outcome) (m v : MachineOf P S H) → p.kind ≡ kind.Open → IsOpened f g p.steps m
       → ((i : ℕ) → StandsAt f g i m → (j : ℕ) × GoesUntil (has_come f g p.now) i j × Arrives f g j o v) → IsLed f g p o v
   led_on p o m v is opened waits = (let w = waits opened.0 opened.2 in (w.0, by_kind p kind.Open w.0 is (opened.0, opened.1, w.1), w.2))
@@ -205,3 +182,29 @@ module _ {P S H : Type 0} (f : P → Functions S H) (g : Given P) where
           by_running : (r : Option ℕ) → m.world.scheduler.running ≡ r → IsSome r → has_come f g p.now k ≡ true
           by_running None is some = absurd (cc some)
           by_running (Some t) is some = rw (next_there k m opened.2 at.goes None (Some t) at.gave is) refl
+
+  -- ---- what can be saved
+
+  no_close_by : (t : ℕ) (idle : Bool) → next_part_by None None idle ≢ Close t
+  no_close_by t true = λ e. cc e
+  no_close_by t false = λ e. cc e
+
+  -- where a machine stands between two calls, no Close comes next
+  pub savable_there : (i : ℕ) (m : MachineOf P S H) → StandsAt f g i m → IsAtStep m ⊎ IsBetweenTurns m → m.turn.steps ≤ most_steps → IsSavable f g i
+  savable_there i m st rests few = record {
+    goes = outcome_there m (run f g i) st ∙ goes rests;
+    no_close = none rests;
+    few = subst (λ n. n ≤ most_steps) (sym (ap (λ (x : Turn). x.steps) st.turn)) few;
+  }
+    where
+      goes : IsAtStep m ⊎ IsBetweenTurns m → m.turn.outcome ≡ Running
+      goes (inl at) = at.goes
+      goes (inr between) = between.goes
+
+      at_step : IsAtStep m → (t : ℕ) → (r : Option ℕ) → m.world.scheduler.running ≡ r → IsSome r → next_at f g i ≢ Close t
+      at_step at t None is some = absurd (cc some)
+      at_step at t (Some u) is some = λ e. (let h = sym (next_there i m st at.goes None (Some u) at.gave is) ∙ e in cc h)
+
+      none : IsAtStep m ⊎ IsBetweenTurns m → (t : ℕ) → next_at f g i ≢ Close t
+      none (inl at) t = at_step at t m.world.scheduler.running refl at.runs
+      none (inr between) t = λ e. no_close_by t (is_idle (run f g i).state.control) (sym (next_there i m st between.goes None None between.gave between.nobody) ∙ e)

@@ -1,7 +1,6 @@
 -- What is loaded, and found again.
-use Rattle.std.proofs.Common.{◌≡◌, ◌≢◌, ℕ, Option, Some, None, is_some, MatchOption, false, Ok, List, refl, sym, ap, ◌∙◌, subst, inl, inr}
+use Rattle.std.proofs.Common.{◌≡◌, ◌≢◌, ℕ, Option, Some, None, is_some, MatchOption, false, Ok, List, refl, sym, ap, ◌∙◌, subst, inr}
 use Rattle.pth_base.specs.Program.{Functions}
-use Rattle.pth_base.specs.declared.outcome.Outcome.{Outcome}
 use Rattle.pth_base.specs.declared.outcome.Outcome.TheVariants.{Running}
 use Rattle.pth_model.specs.Course.{Course}
 use Rattle.pth_model.specs.Run.{parts, run}
@@ -28,9 +27,6 @@ module _ {P S H : Type 0} (f : P → Functions S H) (g : Given P) (p : Place) (m
   not_closed other led =
       let st = led.2.stands refl in
       inr (refl, record { part = led.0; leads = led.1; goes = led.2.outcome; kind = λ same. other (sym (running_there led.0 st) ∙ same) })
-
-  pub ended_before : (o : Outcome) → o ≢ Running → IsLed f g p o m → IsPlaced f g p (Some 2) m
-  ended_before o ended led = inl (refl, record { part = led.0; leads = led.1; ended = λ on. ended (sym led.2.outcome ∙ on) })
 
 none_of : {A : Type 0} (o : Option A) → is_some o ≡ false → o ≡ None
 none_of None h = refl

@@ -41,10 +41,6 @@ take_line : (line rest : List ℕ) → take (length line) (line ++ rest) ≡ lin
 take_line [] rest = refl
 take_line (b ∷ bs) rest = ap (λ xs. b ∷ xs) (take_line bs rest)
 
-drop_line : (line rest : List ℕ) → drop (length line) (line ++ rest) ≡ rest
-drop_line [] rest = refl
-drop_line (b ∷ bs) rest = drop_line bs rest
-
 drop_past : (line rest : List ℕ) (b : ℕ) → drop (length line + 1) (line ++ b ∷ rest) ≡ rest
 drop_past line rest b = subst (λ n. drop n (line ++ b ∷ rest) ≡ rest) (let e : suc (length line) ≡ length line + 1 = omega arith in e) (past line)
   where

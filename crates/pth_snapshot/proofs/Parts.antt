@@ -1,6 +1,6 @@
 -- What the parts of a run leave of the turn, of who runs and of time, and so to which place each part is.
 use Rattle.std.proofs.Common.{◌≡◌, ◌≢◌, ℕ, zero, suc, ◌+◌, ◌-◌, ◌<◌, ◌≤◌, ◌&&◌, ◌||◌, nat_le, nat_lt, Bool, true, false, Option, Some, None, is_some, refl, sym, ap, ◌∙◌, arith, subst, inl, inr, add-one}
-use Rattle.std.proofs.lemmas.Bool.{cases_lt}
+use Rattle.std.proofs.lemmas.Bool.{cases_lt, lt-leb}
 use Rattle.std.proofs.lemmas.Bool.Decides.{nat_tests}
 use Rattle.pth_base.specs.Program.{Functions}
 use Rattle.pth_base.specs.declared.answer.Answer.{Answer}
@@ -108,10 +108,6 @@ halts (Ended v) p ended = refl
 halts Killed p ended = refl
 halts Stalled p ended = refl
 halts OutOfMemory p ended = refl
-
--- what comes next is this part, which is none that begins after an outcome
-pub goes_by : (o : Outcome) (p q : Part) → o ≡ Running → unless_ended o p ≡ q → p ≡ q
-goes_by o p q goes is = rw goes at is
 
 -- what a part that comes next says of who gave up control, who runs, and whether nothing is new or ready
 abbrev pub Shape : Option ℕ → Option ℕ → Bool → Part → Type 0
@@ -253,10 +249,7 @@ module _ {P S H : Type 0} (f : P → Functions S H) (g : Given P) where
   early_by i t n goes is low (Step u) here =
       let one = one_step n u here in
       let up = counts_up f g (n + 1) i (omega (arith, low)) in
-      below (steps_at i) (steps_at n) (omega arith)
-    where
-      below : (a b : ℕ) → b < a → nat_le a b ≡ false
-      below a b lt = grind (arith, nat_tests)
+      lt-leb (steps_at i) (steps_at n) (omega arith)
   early_by i t n goes is low Halt here = absurd (shape n Halt (goes_before n i (omega (arith, low)) goes) here)
 
   early : (i t n : ℕ) → GoesAt i → next_at i ≡ Step t → n < i → stops_at f g (steps_at i) n ≡ false
@@ -401,10 +394,7 @@ module _ {P S H : Type 0} (f : P → Functions S H) (g : Given P) where
   came_by m Halt = refl
 
   not_come : (m n i : ℕ) → next_at i ≡ Move → time_at i < m → has_come f g m i ≡ false
-  not_come m n i is low = rw is (below m (time_at i) low)
-    where
-      below : (a b : ℕ) → b < a → nat_le a b ≡ false
-      below a b lt = grind (arith, nat_tests)
+  not_come m n i is low = rw is (lt-leb m (time_at i) low)
 
   is_place_by : (i : ℕ) (r : Option ℕ) → running_of (run f g i) ≡ r → IsSavable f g i → (run f g i).turn.gave ≡ None → IsPlace f g (place_of (run f g i)) i
   is_place_by i (Some t) runs s gave =

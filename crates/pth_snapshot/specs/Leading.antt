@@ -1,13 +1,13 @@
 -- How a machine goes to the place that a snapshot names.
-use Rattle.std.specs.Prelude.{◌≡◌, ◌⊎◌, ℕ, Bool, Option, Some, None}
+use Rattle.std.specs.Prelude.{◌≡◌, ◌⊎◌, ℕ, Bool, List, Option, Some, None, Ok}
 use Rattle.pth_base.specs.Program.{Functions}
 use Rattle.pth_base.specs.declared.outcome.Outcome.{Outcome}
-use Rattle.pth_base.specs.declared.outcome.Outcome.TheVariants.{Running}
+use Rattle.pth_base.specs.declared.outcome.Outcome.TheVariants.{Running, OutOfMemory}
 use Rattle.pth_model.specs.Run.{run, GoesUntil}
 use Rattle.pth_model.specs.State.{Given}
 use Rattle.pth_sched.specs.MachineOf.{MachineOf}
 use Rattle.pth_sched.specs.Running.{StandsAt}
-use Rattle.pth_snapshot.specs.Place.{OpensAt, LeadsTo, IsPlace, EndsBefore, IsNotClosed}
+use Rattle.pth_snapshot.specs.Place.{OpensAt, LeadsTo, IsPlace, EndsBefore, IsNotClosed, named_place}
 use Rattle.pth_snapshot.specs.declared.place.Place.{Place}
 
 module _ {P S H : Type 0} (f : P → Functions S H) (g : Given P) where
@@ -33,3 +33,9 @@ module _ {P S H : Type 0} (f : P → Functions S H) (g : Given P) where
   abbrev pub IsPlaced : Place → Option ℕ → MachineOf P S H → Type 0
   IsPlaced p None m = (i : ℕ) × IsPlace f g p i × StandsAt f g i m
   IsPlaced p (Some line) m = ((line ≡ 2) × EndsBefore f g p) ⊎ ((line ≡ 3) × IsNotClosed f g p)
+
+  -- memory ended on the way to the place that a text names, or as the machine stood there
+  pub record IsBrokenOff (snap : List ℕ) (m : MachineOf P S H) : Type 0 where
+    pub place : Place
+    pub named : named_place snap ≡ Ok place
+    pub there : (m.turn.outcome ≡ OutOfMemory) ⊎ IsPlaced place None m

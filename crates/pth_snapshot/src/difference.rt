@@ -1,6 +1,6 @@
 //! Where two texts differ.
 
-ghost use Rattle.std.specs.Prelude.{◌≡◌, ◌≢◌, ◌≤◌, ◌+◌, length, IfOk, MatchOption};
+ghost use Rattle.std.specs.Prelude.{◌≡◌, ◌≢◌, ◌≤◌, ◌+◌, ◌^◌, length, IfOk, OnErr, MatchOption};
 ghost use Rattle.pth_snapshot.specs.Loading.{DifferFirstAt};
 
 use pth_base::memory::OutOfMemory;
@@ -26,7 +26,8 @@ fn same_lines(a: &[u8], b: &[u8]) -> usize
 /// The number of the first line in which two texts differ, none if they are the same. A number of more than 32 bits is answered as
 /// want of memory.
 pub fn first_difference(a: &[u8], b: &[u8]) -> Result<Option<u32>, OutOfMemory>
-    ensures { IfOk result (λ line. MatchOption line (a.now ≡ b.now) (λ n. DifferFirstAt a.now b.now n)) }
+    ensures differ { IfOk result (λ line. MatchOption line (a.now ≡ b.now) (λ n. DifferFirstAt a.now b.now n)) }
+    ensures long { OnErr result (2 ^ 32 ≤ length a.now + 1) }
 {
     if a == b {
         return Ok(None);

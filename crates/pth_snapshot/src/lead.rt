@@ -109,6 +109,7 @@ fn wait_until<P: Program>(machine: &mut Machine<P>, moment: u64, marks: &mut Mar
     ensures comes { result ≢ Outcome.OutOfMemory → (g : Given P) (i : ℕ) → StandsAt P.functions g i machine.old
         → (j : ℕ) × GoesUntil (has_come P.functions g moment) i j × Arrives P.functions g j result machine.new }
     ensures running { result ≡ Outcome.Running → machine.new.turn.outcome ≡ Outcome.Running }
+    ensures memory { result ≡ Outcome.OutOfMemory → machine.new.turn.outcome ≡ Outcome.OutOfMemory }
 {
     'moves: while is_early(machine, moment) {
         marks.clear();
@@ -139,6 +140,7 @@ fn lead_open<P: Program>(machine: &mut Machine<P>, place: Place, marks: &mut Mar
     ensures led { result ≢ Outcome.OutOfMemory → (g : Given P) → StandsAt P.functions g 0 machine.old
         → IsLed P.functions g place result machine.new }
     ensures running { result ≡ Outcome.Running → machine.new.turn.outcome ≡ Outcome.Running }
+    ensures memory { result ≡ Outcome.OutOfMemory → machine.new.turn.outcome ≡ Outcome.OutOfMemory }
 {
     let outcome = open(machine, place.steps, marks);
     if is_open(machine, outcome) {
@@ -155,6 +157,7 @@ pub fn lead<P: Program>(machine: &mut Machine<P>, place: Place, marks: &mut Mark
     ensures led { result ≢ Outcome.OutOfMemory → (g : Given P) → StandsAt P.functions g 0 machine.old
         → IsLed P.functions g place result machine.new }
     ensures running { result ≡ Outcome.Running → machine.new.turn.outcome ≡ Outcome.Running }
+    ensures memory { result ≡ Outcome.OutOfMemory → machine.new.turn.outcome ≡ Outcome.OutOfMemory }
 {
     match place.kind {
         Kind::Step => run_to(machine, place.steps, marks),

@@ -1,10 +1,10 @@
 //! A run taken up again.
 
-ghost use Rattle.std.specs.Prelude.{◌≡◌, ◌≢◌, ◌≤◌, IfOk, MatchOption, is_some, None, false, IsTrue};
+ghost use Rattle.std.specs.Prelude.{◌≡◌, ◌≢◌, ◌≤◌, IfOk, OnErr, MatchOption, is_some, None, false, IsTrue};
 ghost use Rattle.pth_base.specs.Limits.{most_steps};
 ghost use Rattle.pth_model.specs.State.{Given};
 ghost use Rattle.pth_sched.specs.Running.{StandsAt, IsBetweenTurns};
-ghost use Rattle.pth_snapshot.specs.Leading.{IsPlaced};
+ghost use Rattle.pth_snapshot.specs.Leading.{IsPlaced, IsBrokenOff};
 ghost use Rattle.pth_snapshot.specs.Loading.{IsLoaded, IsTakenUp, IsRefusedSnapshot, read_error};
 ghost use Rattle.pth_snapshot.specs.Place.{is_step};
 
@@ -70,6 +70,7 @@ fn arrive<P: Program>(
     ensures placed { IfOk result (λ line. (g : Given P) → StandsAt P.functions g 0 machine.old
         → IsPlaced P.functions g place line machine.new) }
     ensures goes { IfOk result (λ line. line ≡ None → machine.new.turn.outcome ≡ Outcome.Running) }
+    ensures memory { OnErr result (machine.new.turn.outcome ≡ Outcome.OutOfMemory) }
 {
     let mut marks = Marks::new(alloc);
     match lead(machine, place, &mut marks) {
@@ -96,6 +97,7 @@ fn bring<P: Program>(
     ensures goes { IfOk result (λ line. line ≡ None → machine.new.turn.outcome ≡ Outcome.Running) }
     ensures found { IfOk result (λ line. (g : Given P) → StandsAt P.functions g 0 machine.old
         → MatchOption line (IsTakenUp P.functions g snap.now machine.new) (λ n. IsRefusedSnapshot P.functions g snap.now n)) }
+    ensures memory { OnErr result ((g : Given P) → StandsAt P.functions g 0 machine.old → IsBrokenOff P.functions g snap.now machine.new) }
 {
     let place = match named_place(snap) {
         Ok(place) => place,

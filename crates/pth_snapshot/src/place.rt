@@ -4,6 +4,7 @@ ghost use Rattle.std.specs.Prelude.{◌≡◌, ℕ, List, Option, option_map, op
 ghost use Rattle.pth_base.specs.Limits.{most_steps};
 ghost use Rattle.pth_snapshot.specs.Place.{cut, behind, number_behind, not_negative, heads, steps_in, kind_in, moment_in, few_steps, named_place, is_step};
 
+use pth_base::limits::MOST_STEPS;
 use pth_text::line::line_end;
 use pth_text::number::read_number;
 
@@ -63,7 +64,7 @@ fn steps_in(line: Option<&[u8]>) -> Option<u64>
     ensures { result ≡ option_and_then steps_in (option_map (λ line. line.now) line.entry) }
 {
     let steps = number_behind(b"steps ", line?)?;
-    if steps <= 1_000_000_000 {
+    if steps <= MOST_STEPS {
         Some(steps)
     } else {
         None

@@ -11,4 +11,4 @@ returns-clause-found g c =
     (placed_there g.P.Program.functions given c.in-Ok.place c.arrive.new.machine c.in_ok-line.line (sym c.is_some.ensures ∙ c.if-is_some.false) (c.in_ok-line.ensures.placed given st))
     c.in_ok-text.ensures line
     (subst (λ text. MatchOption line (c.args.snap.now ≡ text) (λ n. DifferFirstAt c.args.snap.now text n)) c.as_slice.ensures differ))
-    c.first_difference.ensures
+    c.first_difference.ensures.differ
