@@ -20,14 +20,14 @@ pub enum WordsErr {
 }
 
 /// How many threads a workload has at most.
-const MOST_THREADS: u64 = 1000;
+const MOST_WORKERS: u64 = 1000;
 
 /// Whether a workload is asked for that has too few threads or too many, or beside which a FILE is named.
 fn is_no_workload(choice: &Choice<'_>) -> bool
     ensures { result ≡ is_no_workload choice.now.generate (option_map (λ name. name.now) choice.now.file) }
 {
     match choice.generate {
-        Some(n) => choice.file.is_some() || n == 0 || n > MOST_THREADS,
+        Some(n) => choice.file.is_some() || n == 0 || n > MOST_WORKERS,
         None => false,
     }
 }
