@@ -5,7 +5,7 @@ use Rattle.pth_base.specs.declared.call.Call.TheVariants as call
 use Rattle.pth_base.specs.declared.query.Query.{Query}
 use Rattle.pth_base.specs.declared.query.Query.TheVariants as query
 
--- of those that are built: all but these; a plain line and a note call nothing, and two run handlers before they are answered
+-- All calls but these: a plain line and a note call nothing, and pth_cleanup_pop and pth_once run handlers before they are answered.
 abbrev pub is_plain : Call → Bool
 is_plain call.Kill = false
 is_plain (call.Yield n) = false

@@ -3,7 +3,7 @@
 //! The definitions claim nothing by themselves. What is proved of them: in every state of every run each queue
 //! shows exactly those who stand there, the greater rank first and at equal ranks the earlier entry, and no thread
 //! stands in two places (`standings`); what threads have is what the marks of the run tell (`resources`); looks at one moment
-//! are one look (`looks`); and six runs are computed (`example`). The functions for moments, lengths, what a wait holds
+//! are one look (`looks`); and seven runs are computed (`example`). The functions for moments, lengths, what a wait holds
 //! and the ring that a call was given equal their definitions for all operands, and none wraps.
 #![tactic(auto)]
 

@@ -57,8 +57,8 @@ IsAwait c m (Notice d) = d ≡ c
 IsAwait c m (Retaking n o) = n ≡ m
 IsAwait c m a = ⊥
 
--- What a call that blocks thread t waits for. Of those that are built, these block it: main's exit, every join, and the calls that wait
--- for a moment, for a ring, for a descriptor, for a mutex, for a lock, at a condition or at a barrier.
+-- What a call that blocks thread t waits for. These calls may block it: main's exit, every join, and the calls that wait for a moment, for
+-- a ring, for a descriptor, for a mutex, for a lock, at a condition or at a barrier.
 abbrev pub MayAwaitAs : ℕ → Call → Awaits → Type 0
 MayAwaitAs t (call.Exit v) a = (t ≡ main) × (a ≡ Alone)
 MayAwaitAs t (call.Join n) a = a ≡ death_of n
