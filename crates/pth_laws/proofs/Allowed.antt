@@ -181,11 +181,11 @@ abbrev is_joining : Call → Bool
 is_joining (call.Join n) = true
 is_joining c = false
 
-when_answers : (e : Errno) (b : Bool) (v : Verdict) → is_blocking v ≡ false → is_blocking (refused e when b otherwise v) ≡ false
+pub when_answers : (e : Errno) (b : Bool) (v : Verdict) → is_blocking v ≡ false → is_blocking (refused e when b otherwise v) ≡ false
 when_answers e true v h = refl
 when_answers e false v h = h
 
-asking_answers : (own unknown barred : Bool) → is_blocking (refused EINVAL when own otherwise refused ESRCH when unknown otherwise refused EPERM when barred otherwise says 1) ≡ false
+pub asking_answers : (own unknown barred : Bool) → is_blocking (refused EINVAL when own otherwise refused ESRCH when unknown otherwise refused EPERM when barred otherwise says 1) ≡ false
 asking_answers true unknown barred = refl
 asking_answers false true barred = refl
 asking_answers false false true = refl

@@ -285,7 +285,7 @@ module _ {P S H : Type 0} where
     barred = λ x s fewer all r. r;
     reached = λ t b round s free alive there waits r. (r.0, made_as (λ k. blocks t (call.BarrierReach b) (Round b round) (with_barriers (barrier_reached b t) k)) s (λ k. goes_none t _ (with_barriers (barrier_reached b t) k)) r.1);
     goes = λ t g s same r. (r.0, made_as (goes_on t g) s (goes_none t g) r.1);
-    blocked = λ t c a s free other none may r. (r.0, made_as (λ k. blocks t c a (claims t (ring_given c) k)) s (λ k. goes_none t _ (claims t (ring_given c) k) ∙ claimed_none t (ring_given c) k) r.1);
+    blocked = λ t c a s free here other none may r. (r.0, made_as (λ k. blocks t c a (claims t (ring_given c) k)) s (λ k. goes_none t _ (claims t (ring_given c) k) ∙ claimed_none t (ring_given c) k) r.1);
     waits_on = λ t a b s at names stays other plain r. (r.0, made_as (is_blocked_by t (Some (record b { awaits = a }))) s (goes_none t _) r.1);
     stopped = λ t x y s fewer others seats left gone r. (r.0, made_as (λ k. stops_waiting t (with_conditions (λ z. y) (with_barriers (λ z. x) k))) s (λ k. stopped_none t (with_conditions (λ z. y) (with_barriers (λ z. x) k))) r.1);
     takes_seat = λ t c m e s free alive there may r.

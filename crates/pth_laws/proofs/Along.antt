@@ -71,7 +71,7 @@ use Rattle.pth_model.specs.Resources.{handler}
 use Rattle.pth_model.specs.Standing.{Standing, left_by, is_queue, raises_of}
 use Rattle.pth_model.specs.Allowance as allowance
 use Rattle.pth_model.specs.Allowance.{Point, standing_of, waited, number_by}
-use Rattle.pth_model.specs.State.{State, Given, Scheduler, Turn, start, queue, now_of, clock_of}
+use Rattle.pth_model.specs.State.{State, Given, Scheduler, Threads, Turn, start, queue, now_of, clock_of}
 use Rattle.pth_model.specs.Transition.{Piece, Change, silent, nothing, changes, tells, tells_each, tid, controlled, where_so, ◌and◌, ◌and_then◌}
 use Rattle.pth_model.specs.Changes.{shares, uses, sets, goes_on, owing, is_blocked_by, enters, leaves_queue, trails, raises_ready, makes, forgets, removes, adds_object, puts_object, with_threads, with_conditions, with_barriers, with_events, with_kernel, with_scheduler, moves_to, prefers, runs_now, blocked_in, blocked_of, or_nobody, entry_of, prio_of, queue_for, holders}
 use Rattle.pth_model.specs.declared.verdict.Verdict.{Verdict}
@@ -103,6 +103,7 @@ use Rattle.pth_laws.proofs.Seats.{HasLeftAt, left_fewer, left_there, handed_ther
 use Rattle.pth_laws.proofs.KeptSeats.{KeepsSeats, KeepsOtherSeats, keeps_handed, keeps_notified, keeps_initialised, keeps_same, keeps_then, keeps_left, keeps_handed_on}
 use Rattle.pth_laws.proofs.NoNotices.{is_notice, is_noticing, begins_unnoticed, again_unnoticed}
 use Rattle.pth_laws.proofs.Rounds.{HasFewer, HasOthers, HasAll, fewer_same, fewer_initialised, fewer_tail, fewer_answered, fewer_withdrawn, others_answered, others_withdrawn, all_initialised, all_reached}
+use Rattle.pth_laws.proofs.Still.{begins_still}
 use Rattle.pth_laws.proofs.Allowed.{IsFree, IsTaking, IsToTell, unawaited, takes_room, MayWait, IsAllowed, IsAllowedAgain, StaysAt, HasLeft, HasLeftSeat, unseated, unseated_again, is_blocking, await_allowed, allowed, allowed_again, stays_again, left_again, left_ended, stopped_free}
 
 -- a change of a record that leaves its base priority in its range
@@ -136,6 +137,10 @@ MayStand standing s = (u : ℕ) → StandsIn u (standers (standing Waiting)) →
 -- no call blocks t, or it does not live
 abbrev pub IsGone : {P S H : Type 0} → ℕ → State P S H → Type 0
 IsGone t s = IsFree t s ⊎ (lives (s.control.threads.known t) ≡ false)
+
+-- t lives, and is somewhere in its program
+abbrev pub IsThere : {P S H : Type 0} → ℕ → State P S H → Type 0
+IsThere t s = (lives (s.control.threads.known t) ≡ true) × (is_some (s.control.threads.progress t) ≡ true)
 
 -- calls that take a place where they wait
 abbrev pub is_placing : Call → Bool
@@ -219,7 +224,7 @@ pub record Kept {P S H : Type 0} (all : Bool) (f : P → Functions S H) (R : Sta
   pub reached : (t : ℕ) (b : ℤ) (round : ℕ) (s : State P S H) → IsFree t s → lives (s.control.threads.known t) ≡ true → is_some (s.control.threads.progress t) ≡ true → arrival_answer s.control.barriers b ≡ Ok (arrival.Waits round) → R s → R (controlled (λ k. blocks t (call.BarrierReach b) (awaits.Round b round) (with_barriers (barrier_reached b t) k)) s)
   -- how far threads are, and what blocks them
   pub goes : (t : ℕ) (g : Progress S → Progress S) (s : State P S H) → ((p : Progress S) → (g p).blocked ≡ p.blocked) → R s → R (controlled (goes_on t g) s)
-  pub blocked : (t : ℕ) (c : Call) (a : Awaits) (s : State P S H) → IsFree t s → is_placing c ≡ false → (is_special true a ≡ false) × (is_notice a ≡ false) → MayWait t c a s → R s → R (controlled (λ k. blocks t c a (claims t (ring_given c) k)) s)
+  pub blocked : (t : ℕ) (c : Call) (a : Awaits) (s : State P S H) → IsFree t s → IsThere t s → is_placing c ≡ false → (is_special true a ≡ false) × (is_notice a ≡ false) → MayWait t c a s → R s → R (controlled (λ k. blocks t c a (claims t (ring_given c) k)) s)
   pub waits_on : (t : ℕ) (a : Awaits) (b : Blocked) (s : State P S H) → blocked_of s.control t ≡ Some b → Names b.call a → StaysAt b.call b.awaits a → is_await b.call ≡ false → (is_retaking b.awaits ≡ false) × (is_retaking a ≡ false) × (is_notice b.awaits ≡ false → is_notice a ≡ false) → R s → R (controlled (is_blocked_by t (Some (record b { awaits = a }))) s)
   -- no call blocks t any longer, and its arrival, or its seat, may be lost with this
   pub stopped : (t : ℕ) (x : BarrierTable) (y : ConditionTable) (s : State P S H) → HasFewer x s.control.barriers → HasOthers t x s.control.barriers → KeepsOtherSeats t y s.control.conditions → HasLeft t (controlled (with_barriers (λ z. x)) s) → HasLeftSeat t y s → R s → R (controlled (λ k. stops_waiting t (with_conditions (λ z. y) (with_barriers (λ z. x) k))) s)
@@ -242,7 +247,7 @@ life_of_step t (change.State at) s safe = tt
 life_of_step t c s safe = tt
 
 -- what all changes keep, steps do
-kept_by_steps : {P S H : Type 0} (f : P → Functions S H) (R : State P S H → Type 0) → KeptAlong f R → KeptBySteps f R
+pub kept_by_steps : {P S H : Type 0} (f : P → Functions S H) (R : State P S H → Type 0) → KeptAlong f R → KeptBySteps f R
 kept_by_steps f R kept = record {
   handlers = kept.handlers;
   placed = λ standing entries raises trail s may r. kept.placed standing entries raises trail s r;
@@ -354,14 +359,14 @@ module _ {P S H : Type 0} (f : P → Functions S H) (R : State P S H → Type 0)
   look_keeps t None next keeps s r = r
   look_keeps t (Some x) next keeps s r = keeps (acts t x s).state (act_keeps t x s r)
 
-  acts_keep : (t : ℕ) (h : HandlerId) (v : ℤ) (n i : ℕ) → Runs (acts_from f t h v n i)
+  pub acts_keep : (t : ℕ) (h : HandlerId) (v : ℤ) (n i : ℕ) → Runs (acts_from f t h v n i)
   unfolding acts_from
   acts_keep t h v zero i s r = r
   acts_keep t h v (suc n) i s r =
       let x = (f s.control.program).act h.0 v i s.control.shared in
       look_keeps t x.act (acts_from f t h v n (i + 1)) (acts_keep t h v n (i + 1)) (controlled (shares x.shared) s) (kept.shared x.shared s r)
 
-  handler_keeps : (t : ℕ) (h : HandlerId) (v : ℤ) → Runs (runs_handler f t h v)
+  pub handler_keeps : (t : ℕ) (h : HandlerId) (v : ℤ) → Runs (runs_handler f t h v)
   handler_keeps t h v s r =
       let m = mark.Handler (tid t) h v in
       acts_keep t h v (suc act_limit) 0 (tells m s).state (kept.told m s tt r)
@@ -393,6 +398,10 @@ module _ {P S H : Type 0} (f : P → Functions S H) (R : State P S H → Type 0)
   locks_keep t (l ∷ held) s r = locks_keep t held (tells (mark.GaveLock (tid t) l) s).state (kept.told (mark.GaveLock (tid t) l) s tt r)
 
 -- ---- ends, calls, and all parts
+
+-- where nothing of threads is changed, it still is there
+there_still : {P S H : Type 0} (t : ℕ) (s u : State P S H) → u.control.threads ≡ s.control.threads → IsThere t s → IsThere t u
+there_still {S = S} t s u same there = (ap (λ (x : Threads S). lives (x.known t)) same ∙ there.0, ap (λ (x : Threads S). is_some (x.progress t)) same ∙ there.1)
 
 -- no call blocks a thread that is in no queue any more
 leaves_free : {P S H : Type 0} (t : ℕ) (s : State P S H) → IsFree t s → IsFree t (controlled (leaves_queue t) s)
@@ -592,7 +601,7 @@ module _ {P S H : Type 0} (f : P → Functions S H) (R : State P S H → Type 0)
     told = λ m s may x. (kept.handlers.told m s may x.0, x.1);
   }
 
-  ending_keeps : (t : ℕ) (v : ℤ) → Keeps (ending f t v)
+  pub ending_keeps : (t : ℕ) (v : ℤ) → Keeps (ending f t v)
   unfolding ending
   ending_keeps t v s r =
       let o = blocked_of s.control t in
@@ -740,12 +749,12 @@ module _ {P S H : Type 0} (f : P → Functions S H) (R : State P S H → Type 0)
     does_keeps s (call.Once o h v) free sound other e r = once_keeps (number o) (handler h) v (not (s.control.used (number o))) s r
     does_keeps s c free sound other e r = r
 
-    begun_by_keeps : (c : Call) (v : Verdict) (s : State P S H) → is_placing c ≡ false → (is_rounding true v ≡ false) × (is_noticing v ≡ false) → IsAllowed t c v s → R s → R (begun_by f t c v s).told.state
-    begun_by_keeps c (Says x) s other none may r = kept.handlers.told (mark.Answered (tid t) c x) s may r
-    begun_by_keeps c (Yields x) s other none may r = kept.handlers.told (mark.Answered (tid t) c x) s may r
-    begun_by_keeps c (Blocks a) s other none may r = kept.handlers.told (mark.Waits (tid t) c) (controlled (λ k. blocks t c a (claims t (ring_given c) k)) s) tt (kept.blocked t c a s may.0 other none may.1 r)
-    begun_by_keeps c (Ends v) s other none may r = ending_keeps t v s r
-    begun_by_keeps c Kills s other none may r = kept.handlers.told (mark.Answered (tid t) c (answer.Int (pos 1))) s may r
+    begun_by_keeps : (c : Call) (v : Verdict) (s : State P S H) → is_placing c ≡ false → (is_rounding true v ≡ false) × (is_noticing v ≡ false) → IsAllowed t c v s → (is_blocking v ≡ true → IsThere t s) → R s → R (begun_by f t c v s).told.state
+    begun_by_keeps c (Says x) s other none may here r = kept.handlers.told (mark.Answered (tid t) c x) s may r
+    begun_by_keeps c (Yields x) s other none may here r = kept.handlers.told (mark.Answered (tid t) c x) s may r
+    begun_by_keeps c (Blocks a) s other none may here r = kept.handlers.told (mark.Waits (tid t) c) (controlled (λ k. blocks t c a (claims t (ring_given c) k)) s) tt (kept.blocked t c a s may.0 (here refl) other none may.1 r)
+    begun_by_keeps c (Ends v) s other none may here r = ending_keeps t v s r
+    begun_by_keeps c Kills s other none may here r = kept.handlers.told (mark.Answered (tid t) c (answer.Int (pos 1))) s may r
 
     -- an arrival at a barrier, by what it comes to
     reach_keeps : (b : ℤ) (o : Result Arrival Errno) (s : State P S H) → arrival_answer s.control.barriers b ≡ o → IsFree t s → IsSound t s.control → is_some (s.control.threads.progress t) ≡ true → R s → R (begun_as f t (call.BarrierReach b) (by_result (arrived_as b) o trying changes (with_barriers (barrier_reached b t))) s).told.state
@@ -768,7 +777,7 @@ module _ {P S H : Type 0} (f : P → Functions S H) (R : State P S H → Type 0)
         let may = await_allowed f t s s c m e false false false false false is_none_so is_ring is_has refl refl free calm false in
         kept.takes_seat t c m e s free sound.alive (there, is_live_so) may.1 r
 
-    begun_keeps : (c : Call) (s : State P S H) → IsFree t s → IsSound t s.control → s.resources.awaits t ≡ false → is_some (s.control.threads.progress t) ≡ true → R s → R (begun f t c s).told.state
+    pub begun_keeps : (c : Call) (s : State P S H) → IsFree t s → IsSound t s.control → s.resources.awaits t ≡ false → is_some (s.control.threads.progress t) ≡ true → R s → R (begun f t c s).told.state
     unfolding begun row_of
     begun_keeps call.Plain s free sound calm there r = r
     begun_keeps (call.Note v) s free sound calm there r = kept.handlers.told (mark.Noted (tid t) v) s tt r
@@ -777,7 +786,7 @@ module _ {P S H : Type 0} (f : P → Functions S H) (R : State P S H → Type 0)
         await_keeps c m e (is_live s.control.conditions c) (is_no_ring s (extra_ring e)) (is_none (mutex s m)) _ _ (is_claimed_ring s (extra_ring e)) s refl refl refl refl free sound calm there r
     begun_keeps c s free sound calm there r =
         let a = (row_of f s t c).begin in
-        begun_by_keeps c a.verdict (effect_of a s).state refl (begins_none true f s t c refl, begins_unnoticed f s t c refl) (allowed f t s c free calm sound.made) (unless_keeps s (refuses a.verdict) a.effect (does_keeps s c free sound refl) r)
+        begun_by_keeps c a.verdict (effect_of a s).state refl (begins_none true f s t c refl, begins_unnoticed f s t c refl) (allowed f t s c free calm sound.made) (λ blocks. there_still t s (effect_of a s).state (begins_still f t s c blocks) (sound.alive, there)) (unless_keeps s (refuses a.verdict) a.effect (does_keeps s c free sound refl) r)
 
     -- ---- a call is tried again
 
@@ -935,7 +944,7 @@ module _ {P S H : Type 0} (f : P → Functions S H) (R : State P S H → Type 0)
     gone_on_by_keeps None s at sound r = r
     gone_on_by_keeps (Some b) s at sound r = gone_on_in_keeps b.call b.awaits s at sound r
 
-    gone_on_keeps : (s : State P S H) → IsSound t s.control → R s → R (gone_on f t s).told.state
+    pub gone_on_keeps : (s : State P S H) → IsSound t s.control → R s → R (gone_on f t s).told.state
     unfolding gone_on
     gone_on_keeps s sound r = gone_on_by_keeps (blocked_of s.control t) s refl sound r
 
@@ -1014,7 +1023,7 @@ module _ {P S H : Type 0} (f : P → Functions S H) (R : State P S H → Type 0)
   -- ---- a run, where passes and closed turns keep it too
 
   module _ (passed : Keeps (pass f)) (closed : (x : Turn) (t : ℕ) (s : State P S H) → R s → R (closes f x t s).state) where
-    moves_keeps : (x : Turn) (o : Option ℕ) (s : State P S H) → R s → R (moves_by f x o s).state
+    pub moves_keeps : (x : Turn) (o : Option ℕ) (s : State P S H) → R s → R (moves_by f x o s).state
     moves_keeps x None s r = r
     moves_keeps x (Some m) s r =
         let a = controlled (moves_to m) s in
@@ -1052,7 +1061,7 @@ module _ {P S H : Type 0} (f : P → Functions S H) (R : State P S H → Type 0)
   placed_keeps t (Some u) (Some b) s r = put_waiting_keeps t s r
   placed_keeps t (Some u) None s r = put_back_keeps f R steps_keep t s r
 
-  closes_keeps : (x : Turn) (t : ℕ) (s : State P S H) → R s → R (closes f x t s).state
+  pub closes_keeps : (x : Turn) (t : ℕ) (s : State P S H) → R s → R (closes f x t s).state
   unfolding closes is_placed raises_ready
   closes_keeps x t s r =
       let a = controlled raises_ready s in

@@ -33,8 +33,8 @@ use Rattle.pth_model.specs.LibraryControl.{vanish_all_but}
 use Rattle.pth_model.specs.Calls.{blocks}
 use Rattle.pth_model.specs.Pass.{looks}
 use Rattle.pth_model.specs.Run.{run}
-use Rattle.pth_laws.specs.Clean.{has_arrived, round_held}
-use Rattle.pth_laws.specs.Valid.{Lives}
+use Rattle.pth_laws.specs.Clean.{AreArrivalsOwned, has_arrived, round_awaited, round_held}
+use Rattle.pth_laws.specs.Consistent.{AllAwaitOwn, AwaitsOwn}
 use Rattle.pth_laws.proofs.Rounds.{HasFewer, arrives, none_arrived, arrived_waits}
 use Rattle.pth_laws.proofs.Allowed.{IsFree, StaysAt, HasLeft, stopped_free}
 use Rattle.pth_laws.proofs.Along.{KeptAlong, IsLifeSafe, IsGone, run_keeps}
@@ -44,6 +44,21 @@ pub record WaitsFor (b round : ℕ) (o : Option Blocked) : Type 0 where
   pub barrier : ℤ
   pub named : object_named barrier ≡ b
   pub blocked : o ≡ Some (record { call = call.BarrierReach barrier; awaits = Round barrier round })
+
+-- who waits for a round is blocked by a call of pth_barrier_reach, where it waits for what it may
+waits_for : (b round : ℕ) (o : Option Blocked) → ((d : Blocked) → o ≡ Some d → AwaitsOwn d.call d.awaits) → round_held o ≡ Some (b, round) → WaitsFor b round o
+waits_for b round None own h = absurd (cc h)
+waits_for b round (Some d) own h = by_awaits d.awaits refl (own d refl) h
+  where
+    by_awaits : (a : Awaits) → d.awaits ≡ a → AwaitsOwn d.call a → round_awaited a ≡ Some (b, round) → WaitsFor b round (Some d)
+    by_awaits (Round x n) is called h =
+        let pair : ◌≡◌ {A = ℕ × ℕ} (object_named x, n) (b, round) = cc in
+        record {
+          barrier = x;
+          named = ap (λ (p : ℕ × ℕ). p.0) pair;
+          blocked = ap (λ (c : Call). Some (record { call = c; awaits = d.awaits })) called ∙ ap (λ (a : Awaits). Some (record { call = call.BarrierReach x; awaits = a })) (is ∙ ap (λ (p : ℕ × ℕ). Round x p.1) pair);
+        }
+    by_awaits a is called h = absurd (cc h)
 
 none_waits : (b round : ℕ) → WaitsFor b round None → ⊥
 none_waits b round w = none-some (record { call = call.BarrierReach w.barrier; awaits = Round w.barrier round }) w.blocked
@@ -260,7 +275,7 @@ module _ {P S H : Type 0} where
     barred = λ x s fewer all r. arrivals_barred x s fewer r;
     reached = λ t b round s free alive there waits r. arrivals_reached t b round s free alive there waits r;
     goes = λ t g s same r. same_goes t g s same r;
-    blocked = λ t c a s free other none may r. arrivals_blocked t c a s free r;
+    blocked = λ t c a s free here other none may r. arrivals_blocked t c a s free r;
     waits_on = λ t a b s at names stays other plain r. arrivals_wait_on t a b s at stays r;
     stopped = λ t x y s fewer others seats left gone r. arrivals_stopped t (controlled (λ k. with_conditions (λ z. y) (with_barriers (λ z. x) k)) s) left (arrivals_barred x s fewer r);
     takes_seat = λ t c m e s free alive there may r. arrivals_blocked t (call.CondAwait c m e) (Notice c) (controlled (with_conditions (seat_entered c (seat_of t))) s) free r;
@@ -271,7 +286,14 @@ module _ {P S H : Type 0} where
   unfolding start
   arrivals_start f g b round u h = absurd (true≢false (sym h))
 
-  pub run_arrived : (f : P → Functions S H) (g : Given P) (i b round t : ℕ) → has_arrived (run f g i).state.control.barriers b round t ≡ true → Lives (run f g i).state t × (round_held (blocked_of (run f g i).state.control t) ≡ Some (b, round))
-  run_arrived f g i b round t h =
-      let r = run_keeps f AreArrivals (arrivals_kept f) g (arrivals_start f g) i b round t h in
+  pub arrivals_of : (s : State P S H) → AreArrivals s → AreArrivalsOwned s
+  arrivals_of s all b round t h =
+      let r = all b round t h in
       (r.0, ap round_held r.1.blocked ∙ ap (λ n. Some (n, round)) r.1.named)
+
+  pub run_arrived : (f : P → Functions S H) (g : Given P) (i : ℕ) → AreArrivalsOwned (run f g i).state
+  run_arrived f g i = arrivals_of (run f g i).state (run_keeps f AreArrivals (arrivals_kept f) g (arrivals_start f g) i)
+
+  -- and the other way round
+  pub arrivals_in : (s : State P S H) → AllAwaitOwn s → AreArrivalsOwned s → AreArrivals s
+  arrivals_in s own all b round t h = let r = all b round t h in (r.0, waits_for b round (blocked_of s.control t) (own t) r.1)

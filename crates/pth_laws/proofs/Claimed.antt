@@ -100,7 +100,7 @@ claimed_elsewhere x a t now e other =
     let z = ring_awaited a now x in
     ap claimant_by (put_other z.events a (option_map (with_claim (Some (tid t))) (z.events a)) e other) ∙ each_same claimant_by (awaited now) (mapped_claim (awaited now) (λ v. refl)) (x.rings a) x.events e
 
-no_claim : (o : Option Event) → claimant_by (option_map (with_claim None) o) ≡ None
+pub no_claim : (o : Option Event) → claimant_by (option_map (with_claim None) o) ≡ None
 no_claim None = refl
 no_claim (Some v) = refl
 
@@ -342,7 +342,7 @@ module _ {P S H : Type 0} where
     barred = λ x s fewer all r. r;
     reached = λ t b round s free alive there waits r. fits_reached t b round s r;
     goes = λ t g s same r. fits_goes t g s (λ p at. ap event_held (same p)) r;
-    blocked = λ t c a s free other none may r. fits_blocked t c a s (special_none a none.0).1 may r;
+    blocked = λ t c a s free here other none may r. fits_blocked t c a s (special_none a none.0).1 may r;
     waits_on = λ t a b s at names stays other plain r. fits_goes t (blocking (Some (record b { awaits = a }))) s (λ p here. event_given b.call a plain.1 ∙ sym (event_given b.call b.awaits plain.0) ∙ sym (ap event_held (sym (ap blocked_in here) ∙ at))) r;
     stopped = λ t x y s fewer others seats left gone r. fits_stopped t (controlled (λ k. with_conditions (λ z. y) (with_barriers (λ z. x) k)) s) r;
     takes_seat = λ t c m e s free alive there may r. fits_blocked t (call.CondAwait c m e) (awaits.Notice c) (controlled (with_conditions (seat_entered c (seat_of t))) s) refl (record { ring = may.ring; rightly = may.rightly; names = may.names }) r;
@@ -357,23 +357,21 @@ module _ {P S H : Type 0} where
     one = λ e i t u h k within. absurd within;
   }
 
-  run_fits : (f : P → Functions S H) (g : Given P) (i : ℕ) → FitsIn (run f g i).state
-  run_fits f g i = run_keeps f FitsIn (fits_kept f) g (fits_start f g) i
-
-  pub run_held : (f : P → Functions S H) (g : Given P) (i : ℕ) → AreRingsHeld (run f g i).state
-  run_held f g i = record {
+  -- so who is blocked with a ring has its claim, and no ring has two
+  pub held_of : (s : State P S H) → FitsIn s → AreRingsHeld s
+  held_of s r = record {
     held = r.held;
     one_claim = λ t u a b h k within. one t u a b h k within;
     one_waits = λ t u a b h k within. (one t u a b (r.held t a h) (r.held u b k) within).0;
   }
     where
       x : Events
-      x = (run f g i).state.control.events
-
-      r : FitsIn (run f g i).state
-      r = run_fits f g i
+      x = s.control.events
 
       one : (t u a b : ℕ) → claimant x a ≡ Some t → claimant x b ≡ Some u → ring_holds b (x.rings a) ≡ true → (t ≡ u) × (a ≡ b)
       one t u a b h k within =
           let same : a ≡ b = r.one a b t u h k (stands b (x.rings a) within) in
           (same_Some t u (sym h ∙ ap (claimant x) same ∙ k), same)
+
+  pub run_held : (f : P → Functions S H) (g : Given P) (i : ℕ) → AreRingsHeld (run f g i).state
+  run_held f g i = held_of (run f g i).state (run_keeps f FitsIn (fits_kept f) g (fits_start f g) i)

@@ -1,15 +1,18 @@
 -- An event has a seat at its own condition alone, and while a thread claims its ring.
-use Rattle.std.proofs.Common.{◌≡◌, ◌≤◌, ◌⊎◌, ℕ, zero, suc, ◌==◌, Bool, true, false, cond, ℤ, flat_map, Option, Some, None, option_map, inl, inr, refl, sym, ◌∙◌, ap, subst, arith}
-use Rattle.std.proofs.lemmas.Option.{none-some}
+use Rattle.std.proofs.Common.{◌≡◌, ◌≤◌, ◌⊎◌, ℕ, zero, suc, ◌==◌, ◌||◌, Bool, true, false, cond, ℤ, List, [], ◌∷◌, flat_map, Option, Some, None, is_some, option_map, inl, inr, refl, sym, ◌∙◌, ap, subst, arith}
+use Rattle.std.specs.List.{list_any}
+use Rattle.std.proofs.lemmas.Bool.{true≢false}
+use Rattle.std.proofs.lemmas.Option.{none-some, same_Some}
+use Rattle.pth_base.specs.declared.ids.Tid.{Tid}
 use Rattle.pth_base.specs.Chain.{StandsIn}
 use Rattle.pth_base.specs.Program.{Functions}
 use Rattle.pth_base.proofs.Chains.{stands_or_not}
-use Rattle.pth_base.proofs.Tables.{put_other, not_same, same_means}
+use Rattle.pth_base.proofs.Tables.{put_other, not_same, same_means, same_self}
 use Rattle.pth_lock.specs.Objects.{object_named}
 use Rattle.pth_cond.specs.Conditions.{ConditionTable, has_seat, seat_entered, seat_left, all_seats_left}
 use Rattle.pth_numbered.specs.Operands.{number}
 use Rattle.pth_ring.specs.declared.event.Event.{Event}
-use Rattle.pth_ring.specs.Rings.{Events, is_event, is_claimed, with_claim, with_event, ring_awaited, awaited, claimed}
+use Rattle.pth_ring.specs.Rings.{Events, has_claim, is_event, is_claimed, with_claim, with_event, ring_awaited, awaited, claimed}
 use Rattle.pth_model.specs.Conditions.{seat_of}
 use Rattle.pth_model.specs.EventSeats.{condition_of, condition_in, event_seat, seats_changed}
 use Rattle.pth_model.specs.Looks.{looked_at}
@@ -20,23 +23,26 @@ use Rattle.pth_model.specs.Changes.{sets, goes_on, is_blocked_by, makes, forgets
 use Rattle.pth_model.specs.RingWaits.{claimant, claimant_by, claims, extra_ring, gives_back, ring_given, ring_held, stops_waiting, awaited_events}
 use Rattle.pth_model.specs.LibraryControl.{vanish_all_but}
 use Rattle.pth_model.specs.Run.{run}
+use Rattle.pth_laws.specs.Clean.{AreEventSeatsOwned}
+use Rattle.pth_laws.specs.Seats.{NoneSeatedTwice}
 use Rattle.pth_laws.proofs.Seats.{HasFewerSeats, seats_at, has_some, seats_gone, entered_by}
+use Rattle.pth_laws.proofs.KeptSeats.{some_has}
 use Rattle.pth_laws.proofs.EventSeats.{places, AreRight, entered_apart, all_entered, fewer_left, all_gone}
 use Rattle.pth_laws.proofs.Along.{KeptAlong, Arrangement, arranged, MayArrange, run_keeps}
 use Rattle.pth_laws.proofs.Circles.{AreCircles, Comes, mates, free_mate, unclaimed_in, comes_by, claims_by}
 use Rattle.pth_laws.proofs.Claimed.{FitsIn, mapped_claim, each_same, one_same, claimed_here, claimed_elsewhere, fits_kept, fits_start}
 
 -- a claim stands in the ring of an event
-record IsClaimedIn (x : Events) (e : ℕ) : Type 0 where
-  at : ℕ
-  by : ℕ
-  within : StandsIn at (x.rings e)
-  claim : claimant x at ≡ Some by
+pub record IsClaimedIn (x : Events) (e : ℕ) : Type 0 where
+  pub at : ℕ
+  pub by : ℕ
+  pub within : StandsIn at (x.rings e)
+  pub claim : claimant x at ≡ Some by
 
 -- an event has at most one seat, at the condition of which it is, and if it has one, a claim stands in its ring
-record AreEventsSeated (x : Events) (y : ConditionTable) : Type 0 where
-  right : AreRight x y
-  ring : (e c : ℕ) → 1 ≤ seats_at (event_seat e) (y c) → IsClaimedIn x e
+pub record AreEventsSeated (x : Events) (y : ConditionTable) : Type 0 where
+  pub right : AreRight x y
+  pub ring : (e c : ℕ) → 1 ≤ seats_at (event_seat e) (y c) → IsClaimedIn x e
 
 -- who may have a seat at a condition is of it
 its_place : (o : Option ℤ) (c : ℕ) → 1 ≤ places o c → option_map object_named o ≡ Some c
@@ -47,9 +53,42 @@ its_place (Some i) c h = ap Some (same_means (object_named i) c (by_test (object
     by_test true h = refl
     by_test false h = absurd (omega (arith, h))
 
+place_there : (o : Option ℤ) (c : ℕ) → option_map object_named o ≡ Some c → places o c ≡ 1
+place_there None c h = absurd (none-some c h)
+place_there (Some i) c h = ap (λ (b : Bool). cond {A = ℕ} b 1 0) (ap (λ n. n == c) (same_Some (object_named i) c h) ∙ same_self c)
+
 -- no claim stands in a ring that no thread claims
 not_claimed : (x : Events) (e : ℕ) → is_claimed x e ≡ false → IsClaimedIn x e → ⊥
 not_claimed x e free r = none-some r.by (sym (unclaimed_in x e r.at free r.within) ∙ r.claim)
+
+-- in a ring that a thread claims a claim stands
+record HasClaimAmong (x : Events) (es : List ℕ) : Type 0 where
+  at : ℕ
+  by : ℕ
+  within : StandsIn at es
+  claim : claimant x at ≡ Some by
+
+claim_at : (x : Events) (i : ℕ) (es : List ℕ) → has_claim (x.events i) ≡ true → HasClaimAmong x (i ∷ es)
+claim_at x i es h = by_event (x.events i) refl h
+  where
+    by_claim : (v : Event) (o : Option Tid) → x.events i ≡ Some v → v.claim ≡ o → is_some o ≡ true → HasClaimAmong x (i ∷ es)
+    by_claim v None here same h = absurd (true≢false (sym h))
+    by_claim v (Some t) here same h = record { at = i; by = t.0; within = inl refl; claim = ap claimant_by here ∙ ap (option_map (λ (t : Tid). t.0)) same }
+
+    by_event : (o : Option Event) → x.events i ≡ o → has_claim o ≡ true → HasClaimAmong x (i ∷ es)
+    by_event None here h = absurd (true≢false (sym h))
+    by_event (Some v) here h = by_claim v v.claim here refl h
+
+claim_among : (x : Events) (es : List ℕ) → list_any (λ y. has_claim (x.events y)) es ≡ true → HasClaimAmong x es
+claim_among x [] h = absurd (true≢false (sym h))
+claim_among x (i ∷ es) h = by_test (has_claim (x.events i)) refl (claim_among x es) h
+  where
+    by_test : (b : Bool) → has_claim (x.events i) ≡ b → (list_any (λ y. has_claim (x.events y)) es ≡ true → HasClaimAmong x es) → (b || list_any (λ y. has_claim (x.events y)) es) ≡ true → HasClaimAmong x (i ∷ es)
+    by_test true has more h = claim_at x i es has
+    by_test false none more h = let r = more h in record { at = r.at; by = r.by; within = inr r.within; claim = r.claim }
+
+claimed_ring : (x : Events) (e : ℕ) → is_claimed x e ≡ true → IsClaimedIn x e
+claimed_ring x e h = let r = claim_among x (x.rings e) h in record { at = r.at; by = r.by; within = r.within; claim = r.claim }
 
 -- a thread claims a ring in which a claim stands
 ring_claimed : (x : Events) (e : ℕ) → IsClaimedIn x e → is_claimed x e ≡ true
@@ -167,10 +206,10 @@ module _ (x : Events) (c : AreCircles x) (y : ConditionTable) (r : AreEventsSeat
 -- ---- states
 
 module _ {P S H : Type 0} where
-  abbrev AreSeated : State P S H → Type 0
+  abbrev pub AreSeated : State P S H → Type 0
   AreSeated s = AreEventsSeated s.control.events s.control.conditions
 
-  abbrev AreBoth : State P S H → Type 0
+  abbrev pub AreBoth : State P S H → Type 0
   AreBoth s = FitsIn s × AreSeated s
 
   seated_looked : (f : P → Functions S H) (s : State P S H) → AreSeated s → AreSeated (controlled (looks f s) s)
@@ -197,7 +236,7 @@ module _ {P S H : Type 0} where
   seated_stopped t y s fewer r =
       seated_back (ring_held (blocked_of s.control t)) (controlled (λ k. is_blocked_by t None (with_conditions (λ z. y) k)) s) r.0.circles (seated_fewer s.control.events y s.control.conditions (λ c e. fewer c (event_seat e)) r.1)
 
-  seated_kept : (f : P → Functions S H) → KeptAlong f AreBoth
+  pub seated_kept : (f : P → Functions S H) → KeptAlong f AreBoth
   unfolding sets makes forgets vanish_all_but goes_on
   seated_kept f = record {
     handlers = record {
@@ -223,7 +262,7 @@ module _ {P S H : Type 0} where
     barred = λ x s fewer all r. r;
     reached = λ t b round s free alive there waits r. (fits.reached t b round s free alive there waits r.0, r.1);
     goes = λ t g s same r. (fits.goes t g s same r.0, r.1);
-    blocked = λ t c a s free other none may r. (fits.blocked t c a s free other none may r.0, seated_claims t (ring_given c) s r.0.circles may.ring r.1);
+    blocked = λ t c a s free here other none may r. (fits.blocked t c a s free here other none may r.0, seated_claims t (ring_given c) s r.0.circles may.ring r.1);
     waits_on = λ t a b s at names stays other plain r. (fits.waits_on t a b s at names stays other plain r.0, r.1);
     stopped = λ t x y s fewer others seats left gone r. (fits.stopped t x y s fewer others seats left gone r.0, seated_stopped t y (controlled (with_barriers (λ z. x)) s) seats.fewer r);
     takes_seat = λ t c m e s free alive there may r. (fits.takes_seat t c m e s free alive there may r.0, seated_claims t (extra_ring e) (controlled (with_conditions (seat_entered c (seat_of t))) s) r.0.circles may.ring (seated_fewer s.control.events (seat_entered c (seat_of t) s.control.conditions) s.control.conditions (λ i g. let less = entered_by c (seat_of t) (event_seat g) s.control.conditions i in omega (arith, less)) r.1));
@@ -233,7 +272,7 @@ module _ {P S H : Type 0} where
       fits : KeptAlong f FitsIn
       fits = fits_kept f
 
-  seated_start : (f : P → Functions S H) (g : Given P) → AreBoth (start f g)
+  pub seated_start : (f : P → Functions S H) (g : Given P) → AreBoth (start f g)
   unfolding start
   seated_start f g = (fits_start f g, seated_none _ _ (λ c e. omega arith))
 
@@ -243,17 +282,31 @@ module _ {P S H : Type 0} where
   pub run_right : (f : P → Functions S H) (g : Given P) (i : ℕ) → AreRight (run f g i).state.control.events (run f g i).state.control.conditions
   run_right f g i = (run_seated f g i).right
 
-  pub run_events : (f : P → Functions S H) (g : Given P) (i c e : ℕ) → let s = (run f g i).state in has_seat s.control.conditions c (event_seat e) ≡ true → (option_map object_named (condition_in (s.control.events.events e)) ≡ Some c) × (is_claimed s.control.events e ≡ true)
-  run_events f g i c e h = (its_place (condition_in (x.events e)) c (omega (arith, some, place)), ring_claimed x e (r.ring e c some))
+  pub seats_of : (s : State P S H) → AreSeated s → AreEventSeatsOwned s
+  seats_of s r c e h = (its_place (condition_in (x.events e)) c (omega (arith, some, place)), ring_claimed x e (r.ring e c some))
     where
       x : Events
-      x = (run f g i).state.control.events
+      x = s.control.events
 
-      r : AreSeated (run f g i).state
-      r = run_seated f g i
+      some : 1 ≤ seats_at (event_seat e) (s.control.conditions c)
+      some = has_some s.control.conditions c (event_seat e) h
 
-      some : 1 ≤ seats_at (event_seat e) ((run f g i).state.control.conditions c)
-      some = has_some (run f g i).state.control.conditions c (event_seat e) h
-
-      place : seats_at (event_seat e) ((run f g i).state.control.conditions c) ≤ places (condition_in (x.events e)) c
+      place : seats_at (event_seat e) (s.control.conditions c) ≤ places (condition_in (x.events e)) c
       place = r.right e c
+
+  pub run_events : (f : P → Functions S H) (g : Given P) (i : ℕ) → AreEventSeatsOwned (run f g i).state
+  run_events f g i = seats_of (run f g i).state (run_seated f g i)
+
+  -- and the other way round
+  pub seats_in : (s : State P S H) → AreEventSeatsOwned s → NoneSeatedTwice s → AreSeated s
+  seats_in s all single = record {
+    right = λ e c. by_seats e c (seats_at (event_seat e) (s.control.conditions c)) refl;
+    ring = λ e c h. claimed_ring s.control.events e (all c e (some_has s.control.conditions c (event_seat e) h)).1;
+  }
+    where
+      by_seats : (e c n : ℕ) → seats_at (event_seat e) (s.control.conditions c) ≡ n → seats_at (event_seat e) (s.control.conditions c) ≤ places (condition_in (s.control.events.events e)) c
+      by_seats e c zero none = omega (arith, none)
+      by_seats e c (suc n) some =
+          let there = place_there (condition_in (s.control.events.events e)) c (all c e (some_has s.control.conditions c (event_seat e) (omega (arith, some)))).0 in
+          let one = single c (event_seat e) in
+          omega (arith, there, one)

@@ -1,6 +1,6 @@
 -- While a thread makes a step: what its calls keep of who lives.
 use Rattle.std.proofs.Common.{◌≡◌, ◌≢◌, ℕ, ◌+◌, not, Bool, true, false, if◌then◌else◌, ℤ, pos, negsuc, List, [], ◌∷◌, All, Option, Some, None, is_some, option_map, refl, sym, ◌∙◌, ap, subst}
-use Rattle.std.proofs.lemmas.List.Elements.{All-head, All-filter}
+use Rattle.std.proofs.lemmas.List.Elements.{All-head, All-filter, All-weaker}
 use Rattle.std.proofs.lemmas.Bool.{true≢false}
 use Rattle.pth_base.specs.Program.{Functions}
 use Rattle.pth_base.specs.declared.thread.ThreadState.TheVariants as state
@@ -42,7 +42,7 @@ pub record IsGoing (n : ℕ) (ended : ℕ → Bool) (t : ℕ) (x : Seats) : Type
   pub preferred : x.preferred ≡ None
 
 -- who is dead in the system does not live
-dead_known : (o : Option Entry) → is_dead_in o ≡ true → lives o ≡ false
+pub dead_known : (o : Option Entry) → is_dead_in o ≡ true → lives o ≡ false
 dead_known (Some e) h = ap not h
 dead_known None h = refl
 
@@ -67,6 +67,15 @@ named_dead known n false u dead h = absurd (cc h)
 named_dead known (pos m) true u dead h = let same : m ≡ u = cc in subst (λ i. lives (known i) ≡ false) same (dead_known (known m) dead)
 named_dead known (negsuc m) true u dead h = absurd (true≢false (sym dead))
 
+-- where those among the dead do not live, neither does whom a join takes
+pub joins_dead : {P S H : Type 0} (k : Control P S H) → All (λ v. lives (k.threads.known v) ≡ false) (holders (queue k Dead)) → (m : ℤ) (u : ℕ) → to_join k m ≡ Some u → lives (k.threads.known u) ≡ false
+unfolding joinable_dead
+joins_dead k all m u h = by_zero (is_zero m) h
+  where
+    by_zero : (b : Bool) → (if b then first_of (joinable_dead k) else (if is_dead_in (thread k m) then Some (number m) else None)) ≡ Some u → lives (k.threads.known u) ≡ false
+    by_zero true taken = first_holds (λ v. lives (k.threads.known v) ≡ false) (joinable_dead k) u taken (All-filter (λ v. (or_nobody (entry_of k v)).joinable) (λ v. lives (k.threads.known v) ≡ false) (holders (queue k Dead)) all)
+    by_zero false taken = named_dead k.threads.known m (is_dead_in (thread k m)) u refl taken
+
 module _ {P S H : Type 0} (n : ℕ) (ended : ℕ → Bool) (t : ℕ) where
   abbrev pub Going : Control P S H → Type 0
   Going k = IsGoing n ended t (seats k)
@@ -80,15 +89,11 @@ module _ {P S H : Type 0} (n : ℕ) (ended : ℕ → Bool) (t : ℕ) where
 
   -- whom a join takes is dead
   pub joined_dead : (k : Control P S H) (m : ℤ) (u : ℕ) → Going k → to_join k m ≡ Some u → lives (k.threads.known u) ≡ false
-  unfolding joinable_dead
-  joined_dead k m u g h = by_zero (is_zero m) refl h
-    where
-      by_zero : (b : Bool) → is_zero m ≡ b → (if b then first_of (joinable_dead k) else (if is_dead_in (thread k m) then Some (number m) else None)) ≡ Some u → lives (k.threads.known u) ≡ false
-      by_zero true zero taken =
-          let Over : ℕ → Type 0 = λ v. ended v ≡ true in
-          living-over n ended k.threads.made k.threads.known k.threads.standing g.living u
-          (first_holds Over (joinable_dead k) u taken (All-filter (λ v. (or_nobody (entry_of k v)).joinable) Over (holders (queue k Dead)) (shown-all Over (raises_of k.threads.raises Dead) (k.threads.standing Dead) g.living.dead)))
-      by_zero false zero taken = named_dead k.threads.known m (is_dead_in (thread k m)) u refl taken
+  joined_dead k m u g h =
+      let Over : ℕ → Type 0 = λ v. ended v ≡ true in
+      let Gone : ℕ → Type 0 = λ v. lives (k.threads.known v) ≡ false in
+      joins_dead k
+      (All-weaker Over Gone (λ v over. living-over n ended k.threads.made k.threads.known k.threads.standing g.living v over) (holders (queue k Dead)) (shown-all Over (raises_of k.threads.raises Dead) (k.threads.standing Dead) g.living.dead)) m u h
 
   -- who is made next does not live yet, and is another
   pub next_dead : (k : Control P S H) → Living n ended k → lives (k.threads.known (k.threads.made + 1)) ≡ false

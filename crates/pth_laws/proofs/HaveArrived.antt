@@ -29,6 +29,8 @@ use Rattle.pth_model.specs.Pass.{looks}
 use Rattle.pth_model.specs.Run.{run}
 use Rattle.pth_laws.specs.Arrivals.{AllHaveArrived, AllArrivedAtOne, NoneArrivedTwice, arrivals_of}
 use Rattle.pth_laws.specs.Clean.{has_arrived, has_arrived_here}
+use Rattle.pth_laws.specs.Consistent.{AllAwaitOwn, AwaitsOwn}
+use Rattle.pth_laws.specs.Waits.{AllWaitRightly, Names}
 use Rattle.pth_model.proofs.NoRounds.{is_reaching, is_round, special_none, special_both}
 use Rattle.pth_laws.proofs.Rounds.{HasFewer, HasOthers, HasAll, none_counted, fewer_same, all_reached, has_reached, once_reached}
 use Rattle.pth_laws.proofs.Allowed.{IsFree, StaysAt}
@@ -62,6 +64,11 @@ own_on x y u (Some d) all own = arrives_on x y u d.call d.awaits all own
 other_arrives : (x : BarrierTable) (u : ℕ) (c : Call) (a : Awaits) → is_reaching c ≡ false → is_round a ≡ false → Arrives x u c a
 other_arrives x u (call.BarrierReach b) a other none = absurd (true≢false other)
 other_arrives x u c a other none = none
+
+-- by another call than a pth_barrier_reach no round is awaited
+other_round : (c : Call) (a : Awaits) → is_reaching c ≡ false → AwaitsOwn c a → is_round a ≡ false
+other_round c (Round b round) other own = absurd (true≢false (sym (ap is_reaching own) ∙ other))
+other_round c a other own = refl
 
 -- it waits on, for the same round
 stays_arrived : (x : BarrierTable) (u : ℕ) (c : Call) (a now : Awaits) → StaysAt c a now → is_retaking a ≡ false → Arrives x u c a → Arrives x u c now
@@ -100,6 +107,10 @@ same_first : (b d i j : ℕ) → ◌≡◌ {A = Option (ℕ × ℕ)} (Some (b, i
 same_first b d i j h =
     let one : ◌≡◌ {A = ℕ × ℕ} (b, i) (d, j) = cc in
     ap (λ (p : ℕ × ℕ). p.0) one
+
+-- a round is that of one barrier
+same_barrier : (d x : ℤ) (n k : ℕ) → Round d n ≡ Round x k → d ≡ x
+same_barrier d x n k h = cc
 
 -- ---- changes
 
@@ -210,10 +221,10 @@ module _ {P S H : Type 0} where
 
   -- ---- every run
 
-  abbrev Both : State P S H → Type 0
+  abbrev pub Both : State P S H → Type 0
   Both s = AreArrivals s × IsKept s
 
-  both_kept : (f : P → Functions S H) → KeptAlong f Both
+  pub both_kept : (f : P → Functions S H) → KeptAlong f Both
   both_kept f = let k = arrivals_kept f in record {
     handlers = record {
       shared = λ h s r. r;
@@ -238,14 +249,14 @@ module _ {P S H : Type 0} where
     barred = λ x s fewer all r. (k.barred x s fewer all r.0, kept_barred x s fewer all r.1);
     reached = λ t b round s free alive there waits r. (k.reached t b round s free alive there waits r.0, kept_reached t b round s (λ n i h. arrived_blocked s n i t free r.0 h) waits r.1);
     goes = λ t g s same r. (k.goes t g s same r.0, kept_goes t g s same r.1);
-    blocked = λ t c a s free other none may r. (k.blocked t c a s free other none may r.0, kept_blocked t c a s (places_not c other) (special_none a none.0).0 r.1);
+    blocked = λ t c a s free here other none may r. (k.blocked t c a s free here other none may r.0, kept_blocked t c a s (places_not c other) (special_none a none.0).0 r.1);
     waits_on = λ t a b s at names stays other plain r. (k.waits_on t a b s at names stays other plain r.0, kept_on t a b s at stays plain.0 r.1);
     stopped = λ t x y s fewer others seats left gone r. (k.stopped t x y s fewer others seats left gone r.0, kept_stopped t x (controlled (with_conditions (λ z. y)) s) fewer others r.1);
     takes_seat = λ t c m e s free alive there may r. (k.takes_seat t c m e s free alive there may r.0, kept_blocked t (call.CondAwait c m e) (Notice c) (controlled (with_conditions (seat_entered c (seat_of t))) s) refl refl r.1);
     retakes = λ t c m e a o y s fewer gone at r. (k.retakes t c m e a o y s fewer gone at r.0, kept_retakes t c m e o (controlled (with_conditions (λ z. y)) s) r.1);
   }
 
-  kept_start : (f : P → Functions S H) (g : Given P) → IsKept (start f g)
+  pub kept_start : (f : P → Functions S H) (g : Given P) → IsKept (start f g)
   unfolding start
   kept_start f g = (λ u. put_by (λ (o : Option (Progress S)). HasOwn (start f g).control.barriers u (blocked_in o)) (λ v. None) main _ u (λ here. tt) (λ other. tt), λ b t. omega arith)
 
@@ -273,22 +284,42 @@ module _ {P S H : Type 0} where
           let none : arrivals_of t (x b) ≡ 0 = none_there t (x b) (λ round h. let gone = none_at round h in absurd (omega (arith, gone, there))) in
           absurd (omega (arith, none, here))
 
-  pub run_arrives : (f : P → Functions S H) (g : Given P) (i : ℕ) → AllHaveArrived (run f g i).state
-  run_arrives f g i t round b h = by_blocked (blocked_of (run f g i).state.control t) ((run_kept f g i).0 t) h
+  pub arrived_of : (s : State P S H) → IsKept s → AllHaveArrived s
+  arrived_of s kept t round b h = by_blocked (blocked_of s.control t) (kept.0 t) h
     where
       x : BarrierTable
-      x = (run f g i).state.control.barriers
+      x = s.control.barriers
 
       by_call : (c : Call) (a : Awaits) → Arrives x t c a → a ≡ Round b round → has_arrived x (object_named b) round t ≡ true
       by_call (call.BarrierReach d) a own h =
-          let named : d ≡ b = same_barrier d (round_in a) (sym own.0 ∙ h) in
+          let named : d ≡ b = same_barrier d b (round_in a) round (sym own.0 ∙ h) in
           let number : round_in a ≡ round = ap round_in h in
           ap (λ i. has_arrived x (object_named i) round t) (sym named) ∙ ap (λ n. has_arrived x (object_named d) n t) (sym number) ∙ own.1
-        where
-          same_barrier : (d : ℤ) (n : ℕ) → Round d n ≡ Round b round → d ≡ b
-          same_barrier d n h = cc
       by_call c a own h = absurd (true≢false (sym (ap is_round h) ∙ own))
 
       by_blocked : (o : Option Blocked) → HasOwn x t o → awaits_in o ≡ Round b round → has_arrived x (object_named b) round t ≡ true
       by_blocked None own h = absurd (cc h)
       by_blocked (Some d) own h = by_call d.call d.awaits own h
+
+  pub run_arrives : (f : P → Functions S H) (g : Given P) (i : ℕ) → AllHaveArrived (run f g i).state
+  run_arrives f g i = arrived_of (run f g i).state (run_kept f g i)
+
+  -- who waits for a round is blocked by a pth_barrier_reach of its barrier
+  pub round_own : (s : State P S H) → IsKept s → (t : ℕ) (d : Blocked) → blocked_of s.control t ≡ Some d → (b : ℤ) (round : ℕ) → d.awaits ≡ Round b round → d.call ≡ call.BarrierReach b
+  round_own s kept t d at b round h = by_call d.call d.awaits (subst (HasOwn s.control.barriers t) at (kept.0 t)) h
+    where
+      by_call : (c : Call) (a : Awaits) → Arrives s.control.barriers t c a → a ≡ Round b round → c ≡ call.BarrierReach b
+      by_call (call.BarrierReach n) a own h = ap (λ (i : ℤ). call.BarrierReach i) (same_barrier n b (round_in a) round (sym own.0 ∙ h))
+      by_call c a own h = absurd (true≢false (sym (ap is_round h) ∙ own))
+
+  -- and the other way round
+  pub kept_in : (s : State P S H) → AllAwaitOwn s → AllWaitRightly s → AllHaveArrived s → NoneArrivedTwice s → IsKept s
+  kept_in s own rightly arrived once = ((λ u. by_blocked u (blocked_of s.control u) refl), once)
+    where
+      by_call : (u : ℕ) (d : Blocked) → blocked_of s.control u ≡ Some d → (c : Call) → AwaitsOwn c d.awaits → Names c d.awaits → Arrives s.control.barriers u c d.awaits
+      by_call u d at (call.BarrierReach b) may named = (named, arrived u (round_in d.awaits) b (ap awaits_in at ∙ named))
+      by_call u d at c may named = other_round c d.awaits refl may
+
+      by_blocked : (u : ℕ) (o : Option Blocked) → blocked_of s.control u ≡ o → HasOwn s.control.barriers u o
+      by_blocked u None at = tt
+      by_blocked u (Some d) at = by_call u d at d.call (own u d at) (rightly u d at).0

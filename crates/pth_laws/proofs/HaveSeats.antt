@@ -29,20 +29,21 @@ use Rattle.pth_model.specs.Calls.{blocks}
 use Rattle.pth_model.specs.Pass.{looks}
 use Rattle.pth_model.specs.Run.{run}
 use Rattle.pth_laws.specs.Clean.{condition_awaited, condition_held}
+use Rattle.pth_laws.specs.Consistent.{AllAwaitOwn, AwaitsOwn}
 use Rattle.pth_laws.specs.Seats.{AllHaveSeats, NoneSeatedTwice}
 use Rattle.pth_laws.proofs.NoNotices.{is_notice}
-use Rattle.pth_laws.proofs.Seats.{seats_at}
-use Rattle.pth_laws.proofs.EventSeats.{places}
+use Rattle.pth_laws.proofs.Seats.{seats_at, has_some}
+use Rattle.pth_laws.proofs.EventSeats.{places, AreRight}
 use Rattle.pth_laws.proofs.KeptSeats.{KeepsOtherSeats, entered_more, entered_here, some_has, threads_entered, threads_left}
 use Rattle.pth_laws.proofs.Allowed.{IsFree}
 use Rattle.pth_laws.proofs.Along.{KeptAlong, run_keeps}
-use Rattle.pth_laws.proofs.Seated.{run_single}
+use Rattle.pth_laws.proofs.Seated.{AreSingle, run_single}
 use Rattle.pth_laws.proofs.EventsSeated.{run_right}
 
 -- u, which this call blocks, has its seat at the condition whose notice it awaits; and only a pth_cond_await awaits one
-record IsSeated (y : ConditionTable) (u : ℕ) (c : Call) (a : Awaits) : Type 0 where
-  plain : is_await c ≡ false → is_notice a ≡ false
-  seat : (k : ℕ) → condition_awaited a ≡ Some k → 1 ≤ seats_at (seat_of u) (y k)
+pub record IsSeated (y : ConditionTable) (u : ℕ) (c : Call) (a : Awaits) : Type 0 where
+  pub plain : is_await c ≡ false → is_notice a ≡ false
+  pub seat : (k : ℕ) → condition_awaited a ≡ Some k → 1 ≤ seats_at (seat_of u) (y k)
 
 abbrev HasSeat : ConditionTable → ℕ → Option Blocked → Type 0
 HasSeat y u None = Unit {0}
@@ -60,6 +61,11 @@ no_notice a k none h = cc
 
 other_seated : (y : ConditionTable) (u : ℕ) (c : Call) (a : Awaits) → is_notice a ≡ false → IsSeated y u c a
 other_seated y u c a none = record { plain = λ other. none; seat = λ k h. absurd (no_notice a k none h) }
+
+-- by another call than a pth_cond_await no notice is awaited
+other_notice : (c : Call) (a : Awaits) → is_await c ≡ false → AwaitsOwn c a → is_notice a ≡ false
+other_notice c (Notice d) other own = absurd (true≢false (sym own ∙ other))
+other_notice c a other own = refl
 
 -- this blocks t now, or nothing does
 seat_blocked : {S : Type 0} (y : ConditionTable) (t : ℕ) (d : Blocked) (p : Option (Progress S)) → IsSeated y t d.call d.awaits → HasSeat y t (blocked_in (option_map (blocking (Some d)) p))
@@ -82,7 +88,7 @@ place_once (Some i) c = by_test (object_named i == c)
 -- ---- changes
 
 module _ {P S H : Type 0} where
-  abbrev HaveSeats : State P S H → Type 0
+  abbrev pub HaveSeats : State P S H → Type 0
   HaveSeats s = (u : ℕ) → HasSeat s.control.conditions u (blocked_of s.control u)
 
   seats_made : (f : P → Functions S H) (t b : ℕ) (v a : ℤ) (s : State P S H) → HaveSeats s → HaveSeats (controlled (makes f b v (or_first (values_for s.control t a))) s)
@@ -173,7 +179,7 @@ module _ {P S H : Type 0} where
 
   -- ---- every run
 
-  seats_kept : (f : P → Functions S H) → KeptAlong f HaveSeats
+  pub seats_kept : (f : P → Functions S H) → KeptAlong f HaveSeats
   unfolding sets looks
   seats_kept f = record {
     handlers = record {
@@ -199,7 +205,7 @@ module _ {P S H : Type 0} where
     barred = λ x s fewer all r. r;
     reached = λ t b round s free alive there waits r. seats_blocked t (call.BarrierReach b) (Round b round) (controlled (with_barriers (barrier_reached b t)) s) (other_seated s.control.conditions t (call.BarrierReach b) (Round b round) refl) r;
     goes = λ t g s same r. seats_same t g s same r;
-    blocked = λ t c a s free other none may r. let u = controlled (claims t (ring_given c)) s in seats_blocked t c a u (other_seated u.control.conditions t c a none.1) (seats_claimed t (ring_given c) s r);
+    blocked = λ t c a s free here other none may r. let u = controlled (claims t (ring_given c)) s in seats_blocked t c a u (other_seated u.control.conditions t c a none.1) (seats_claimed t (ring_given c) s r);
     waits_on = λ t a b s at names stays other plain r.
         let was : IsSeated s.control.conditions t b.call b.awaits = subst (HasSeat s.control.conditions t) at (r t) in
         seats_blocked t b.call a s (other_seated s.control.conditions t b.call a (plain.2 (was.plain other))) r;
@@ -210,24 +216,52 @@ module _ {P S H : Type 0} where
         seats_blocked t (call.CondAwait c m e) (Retaking m o) u (other_seated u.control.conditions t (call.CondAwait c m e) (Retaking m o) refl) (seats_stopped t y s keeps r);
   }
 
-  seats_start : (f : P → Functions S H) (g : Given P) → HaveSeats (start f g)
+  pub seats_start : (f : P → Functions S H) (g : Given P) → HaveSeats (start f g)
   unfolding start
   seats_start f g u = put_by (λ (o : Option (Progress S)). HasSeat (start f g).control.conditions u (blocked_in o)) (λ v. None) main _ u (λ here. tt) (λ other. tt)
 
-  pub run_has_seats : (f : P → Functions S H) (g : Given P) (i : ℕ) → AllHaveSeats (run f g i).state
-  run_has_seats f g i t c h = some_has (run f g i).state.control.conditions c (seat_of t) (by_blocked (blocked_of (run f g i).state.control t) (run_keeps f HaveSeats (seats_kept f) g (seats_start f g) i t) h)
+  pub seated_of : (s : State P S H) → HaveSeats s → AllHaveSeats s
+  seated_of s all t c h = some_has s.control.conditions c (seat_of t) (by_blocked (blocked_of s.control t) (all t) h)
     where
       no_condition : None ≡ Some c → ⊥
       no_condition h = cc
 
-      by_blocked : (o : Option Blocked) → HasSeat (run f g i).state.control.conditions t o → condition_held o ≡ Some c → 1 ≤ seats_at (seat_of t) ((run f g i).state.control.conditions c)
+      by_blocked : (o : Option Blocked) → HasSeat s.control.conditions t o → condition_held o ≡ Some c → 1 ≤ seats_at (seat_of t) (s.control.conditions c)
       by_blocked None own h = absurd (no_condition h)
       by_blocked (Some d) own h = own.seat c h
 
-  pub run_once_seated : (f : P → Functions S H) (g : Given P) (i : ℕ) → NoneSeatedTwice (run f g i).state
-  run_once_seated f g i c (Await t) = run_single f g i c t.0
-  run_once_seated f g i c (Event e) =
-      let s = (run f g i).state in
-      let right = run_right f g i e.0 c in
+  pub run_has_seats : (f : P → Functions S H) (g : Given P) (i : ℕ) → AllHaveSeats (run f g i).state
+  run_has_seats f g i = seated_of (run f g i).state (run_keeps f HaveSeats (seats_kept f) g (seats_start f g) i)
+
+  -- who waits for a notice is blocked by a pth_cond_await
+  pub notice_own : (s : State P S H) → HaveSeats s → (t : ℕ) (d : Blocked) → blocked_of s.control t ≡ Some d → is_notice d.awaits ≡ true → is_await d.call ≡ true
+  notice_own s all t d at notice = by_call (is_await d.call) refl
+    where
+      own : IsSeated s.control.conditions t d.call d.awaits
+      own = subst (HasSeat s.control.conditions t) at (all t)
+
+      by_call : (b : Bool) → is_await d.call ≡ b → is_await d.call ≡ true
+      by_call true h = h
+      by_call false h = absurd (true≢false (sym notice ∙ own.plain h))
+
+  -- and the other way round
+  pub seated_in : (s : State P S H) → AllAwaitOwn s → AllHaveSeats s → HaveSeats s
+  seated_in s own seats u = by_blocked (blocked_of s.control u) refl
+    where
+      by_blocked : (o : Option Blocked) → blocked_of s.control u ≡ o → HasSeat s.control.conditions u o
+      by_blocked None at = tt
+      by_blocked (Some d) at = record {
+        plain = λ other. other_notice d.call d.awaits other (own u d at);
+        seat = λ k h. has_some s.control.conditions k (seat_of u) (seats u k (ap condition_held at ∙ h));
+      }
+
+  -- no thread has two seats at a condition, and no event has
+  pub single_of : (s : State P S H) → AreSingle s.control.conditions → AreRight s.control.events s.control.conditions → NoneSeatedTwice s
+  single_of s threads events c (Await t) = threads c t.0
+  single_of s threads events c (Event e) =
+      let right = events e.0 c in
       let one = place_once (condition_in (s.control.events.events e.0)) c in
       omega (arith, right, one)
+
+  pub run_once_seated : (f : P → Functions S H) (g : Given P) (i : ℕ) → NoneSeatedTwice (run f g i).state
+  run_once_seated f g i = single_of (run f g i).state (run_single f g i) (run_right f g i)

@@ -14,6 +14,7 @@ pub mod EventSeats
 pub mod KeptSeats
 pub mod NoNotices
 pub mod Allowed
+pub mod Still
 pub mod Along
 pub mod Ranged
 pub mod Waited
@@ -34,6 +35,8 @@ pub mod PendingRings
 pub mod Refusing
 pub mod Awaits
 pub mod Claims
+pub mod OwnedClaims
+pub mod Consistent
 pub mod Walk
 pub mod Handlers
 pub mod Endings

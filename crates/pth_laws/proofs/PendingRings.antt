@@ -386,7 +386,7 @@ module _ {P S H : Type 0} where
     barred = λ x s fewer all r. r;
     reached = λ t b round s free alive there waits r. (fits.reached t b round s free alive there waits r.0, pending_blocks t (Some (record { call = call.BarrierReach b; awaits = awaits.Round b round })) (controlled (with_barriers (barrier_reached b t)) s) (pending_none s.control.events None refl) r.1);
     goes = λ t g s same r. (fits.goes t g s same r.0, pending_same t g s (λ p at. ap ring_held (same p)) r.1);
-    blocked = λ t c a s free other none may r. (fits.blocked t c a s free other none may r.0, pending_begins t c a s r.1);
+    blocked = λ t c a s free here other none may r. (fits.blocked t c a s free here other none may r.0, pending_begins t c a s r.1);
     waits_on = λ t a b s at names stays other plain r. (fits.waits_on t a b s at names stays other plain r.0, pending_same t (blocking (Some (record b { awaits = a }))) s (λ p here. held_on b.call b.awaits a plain.0 plain.1 ∙ sym (ap ring_held (ap blocked_in (sym here) ∙ at))) r.1);
     stopped = λ t x y s fewer others seats left gone r. (fits.stopped t x y s fewer others seats left gone r.0, pending_stopped t (controlled (λ k. with_conditions (λ z. y) (with_barriers (λ z. x) k)) s) r.1);
     takes_seat = λ t c m e s free alive there may r. (fits.takes_seat t c m e s free alive there may r.0, pending_begins t (call.CondAwait c m e) (awaits.Notice c) (controlled (with_conditions (seat_entered c (seat_of t))) s) r.1);

@@ -166,7 +166,7 @@ module _ {P S H : Type 0} where
     barred = λ x s fewer all r. r;
     reached = λ t b round s free alive there waits r. ranged_goes t _ (controlled (with_barriers (barrier_reached b t)) s) r;
     goes = λ t g s same r. ranged_goes t g s r;
-    blocked = λ t c a s free other none may r. ranged_goes t _ (controlled (claims t (ring_given c)) s) (ranged_claimed t (ring_given c) s r);
+    blocked = λ t c a s free here other none may r. ranged_goes t _ (controlled (claims t (ring_given c)) s) (ranged_claimed t (ring_given c) s r);
     waits_on = λ t a b s at names stays other plain r. ranged_goes t _ s r;
     stopped = λ t x y s fewer others seats left gone r. ranged_stopped t (controlled (λ k. with_conditions (λ z. y) (with_barriers (λ z. x) k)) s) r;
     takes_seat = λ t c m e s free alive there may r. ranged_goes t _ (controlled (claims t (extra_ring e)) (controlled (with_conditions (seat_entered c (seat_of t))) s)) (ranged_claimed t (extra_ring e) (controlled (with_conditions (seat_entered c (seat_of t))) s) r);
@@ -220,7 +220,7 @@ module _ {P S H : Type 0} where
     barred = λ x s fewer all r. r;
     reached = λ t b round s free alive there waits r. r;
     goes = λ t g s same r. r;
-    blocked = λ t c a s free other none may r. top_claimed top t (ring_given c) s r;
+    blocked = λ t c a s free here other none may r. top_claimed top t (ring_given c) s r;
     waits_on = λ t a b s at names stays other plain r. r;
     stopped = λ t x y s fewer others seats left gone r. top_stopped top t (controlled (λ k. with_conditions (λ z. y) (with_barriers (λ z. x) k)) s) r;
     takes_seat = λ t c m e s free alive there may r. top_claimed top t (extra_ring e) (controlled (with_conditions (seat_entered c (seat_of t))) s) r;

@@ -21,10 +21,10 @@ use Rattle.pth_model.specs.LibraryControl.{vanish_all_but}
 use Rattle.pth_model.specs.Looks.{looked_at}
 use Rattle.pth_model.specs.Pass.{looks, waiting}
 use Rattle.pth_model.specs.Run.{run}
-use Rattle.pth_laws.specs.Rings.{AreRingsCircles}
+use Rattle.pth_laws.specs.Rings.{AreRingsCircles, AreRingsHeld}
 use Rattle.pth_laws.proofs.Along.{KeptAlong, Arrangement, Alone, Chained, Joined, Isolated, Freed, RingFreed, arranged, MayArrange, run_keeps}
 use Rattle.pth_laws.proofs.Circles.{AreCircles, apart, begins, free_event, mates}
-use Rattle.pth_laws.proofs.Claimed.{FitsIn, each_same, fits_kept, fits_start, one_same, some_mapped, stands}
+use Rattle.pth_laws.proofs.Claimed.{Fits, FitsIn, each_same, fits_kept, fits_start, one_same, some_mapped, stands}
 
 abbrev pub AreEvents : Events → Type 0
 AreEvents x = (e g : ℕ) → StandsIn g (x.rings e) → is_event x g ≡ true
@@ -125,10 +125,10 @@ module _ {P S H : Type 0} where
       let es = flat_map (awaited_events s.control) (waiting s.control) in
       events_as s.control.events (controlled (looks f s) s).control.events refl (λ e. each_same is_some (looked_at f s e) (some_mapped (looked_at f s e)) es s.control.events.events e) all
 
-  abbrev Both : State P S H → Type 0
+  abbrev pub Both : State P S H → Type 0
   Both s = FitsIn s × HaveEvents s
 
-  both_kept : (f : P → Functions S H) → KeptAlong f Both
+  pub both_kept : (f : P → Functions S H) → KeptAlong f Both
   unfolding sets makes forgets goes_on
   both_kept f = record {
     handlers = record {
@@ -154,7 +154,7 @@ module _ {P S H : Type 0} where
     barred = λ x s fewer all r. r;
     reached = λ t b round s free alive there waits r. (fits.reached t b round s free alive there waits r.0, r.1);
     goes = λ t g s same r. (fits.goes t g s same r.0, r.1);
-    blocked = λ t c a s free other none may r. (fits.blocked t c a s free other none may r.0, events_claimed t (ring_given c) s r.1);
+    blocked = λ t c a s free here other none may r. (fits.blocked t c a s free here other none may r.0, events_claimed t (ring_given c) s r.1);
     waits_on = λ t a b s at names stays other plain r. (fits.waits_on t a b s at names stays other plain r.0, r.1);
     stopped = λ t x y s fewer others seats left gone r. (fits.stopped t x y s fewer others seats left gone r.0, events_stopped t (controlled (λ k. with_conditions (λ z. y) (with_barriers (λ z. x) k)) s) r.1);
     takes_seat = λ t c m e s free alive there may r. (fits.takes_seat t c m e s free alive there may r.0, events_claimed t (extra_ring e) (controlled (with_conditions (seat_entered c (seat_of t))) s) r.1);
@@ -164,21 +164,48 @@ module _ {P S H : Type 0} where
       fits : KeptAlong f FitsIn
       fits = fits_kept f
 
-  both_start : (f : P → Functions S H) (g : Given P) → Both (start f g)
+  pub both_start : (f : P → Functions S H) (g : Given P) → Both (start f g)
   unfolding start
   both_start f g = (fits_start f g, λ e i h. absurd h)
 
   pub run_events_there : (f : P → Functions S H) (g : Given P) (i : ℕ) → AreEvents (run f g i).state.control.events
   run_events_there f g i = (run_keeps f Both (both_kept f) g (both_start f g) i).1
 
-  pub run_circles : (f : P → Functions S H) (g : Given P) (i : ℕ) → AreRingsCircles (run f g i).state
-  run_circles f g i =
-      let x = (run f g i).state.control.events in
-      let both = run_keeps f Both (both_kept f) g (both_start f g) i in
+  pub circles_of : (s : State P S H) → Both s → AreRingsCircles s
+  circles_of s both =
+      let x = s.control.events in
       let c = both.0.circles in
       record {
         own = λ e h. ring_holds-in e (x.rings e) (c.here e h);
+        begun = λ e a h. ring_holds-in e (x.rings e) (c.own e a (stands a (x.rings e) h));
         events = λ e a h. both.1 e a (stands a (x.rings e) h);
+        made = λ e a h. c.low e a (stands a (x.rings e) h);
         once = c.once;
         rotated = λ e a h. c.turns e a (stands a (x.rings e) h);
       }
+
+  pub run_circles : (f : P → Functions S H) (g : Given P) (i : ℕ) → AreRingsCircles (run f g i).state
+  run_circles f g i = circles_of (run f g i).state (run_keeps f Both (both_kept f) g (both_start f g) i)
+
+  -- and the other way round
+  circles_in : (s : State P S H) → AreRingsCircles s → AreCircles s.control.events
+  circles_in s c =
+      let x = s.control.events in
+      record {
+        here = λ e h. stands e (x.rings e) (c.own e h);
+        own = λ e a h. stands e (x.rings e) (c.begun e a (ring_holds-in a (x.rings e) h));
+        turns = λ e a h. c.rotated e a (ring_holds-in a (x.rings e) h);
+        once = c.once;
+        low = λ e a h. c.made e a (ring_holds-in a (x.rings e) h);
+      }
+
+  pub both_in : (s : State P S H) → AreRingsCircles s → AreRingsHeld s → Both s
+  both_in s c r =
+      let x = s.control.events in (
+        record {
+          circles = circles_in s c;
+          held = r.held;
+          one = λ e a t u h k within. (r.one_claim t u e a h k (ring_holds-in a (x.rings e) within)).1;
+        },
+        λ e a h. c.events e a (ring_holds-in a (x.rings e) h),
+      )

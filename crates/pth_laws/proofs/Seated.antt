@@ -1,7 +1,7 @@
 -- Whoever has a seat at a condition lives, and a pth_cond_await blocks it, which waits for that condition's notice.
-use Rattle.std.proofs.Common.{◌≡◌, ◌≢◌, ◌≤◌, ℕ, zero, suc, ◌+◌, ◌==◌, Bool, true, false, cond, ℤ, Option, Some, None, is_some, option_map, inl, inr, refl, sym, ◌∙◌, ap, subst, arith}
+use Rattle.std.proofs.Common.{◌≡◌, ◌≢◌, ◌≤◌, ℕ, zero, suc, ◌+◌, ◌==◌, Bool, true, false, cond, ℤ, Option, Some, None, is_some, option_map, ◌⊎◌, inl, inr, refl, sym, ◌∙◌, ap, subst, arith}
 use Rattle.std.proofs.lemmas.Bool.{true≢false}
-use Rattle.std.proofs.lemmas.Option.{none-some}
+use Rattle.std.proofs.lemmas.Option.{none-some, same_Some}
 use Rattle.pth_base.specs.Program.{Functions}
 use Rattle.pth_base.specs.Table.{put}
 use Rattle.pth_base.specs.declared.call.Call.{Call}
@@ -20,6 +20,7 @@ use Rattle.pth_threads.specs.declared.entry.Change.TheVariants as change
 use Rattle.pth_threads.specs.declared.entry.Entry.{Entry}
 use Rattle.pth_model.specs.declared.awaits.Awaits.{Awaits}
 use Rattle.pth_model.specs.declared.awaits.Awaits.TheVariants.{Round, Notice, Retaking}
+use Rattle.pth_model.specs.declared.awaits.Retake.{Retake}
 use Rattle.pth_model.specs.declared.blocked.Blocked.{Blocked}
 use Rattle.pth_model.specs.declared.progress.Progress.{Progress}
 use Rattle.pth_model.specs.Awaits.{is_await, is_awaiting}
@@ -35,10 +36,13 @@ use Rattle.pth_model.specs.LibraryControl.{vanish_all_but}
 use Rattle.pth_model.specs.Calls.{blocks}
 use Rattle.pth_model.specs.Pass.{looks}
 use Rattle.pth_model.specs.Run.{run}
-use Rattle.pth_laws.specs.Clean.{condition_held}
-use Rattle.pth_laws.specs.Valid.{Lives}
+use Rattle.pth_laws.specs.Clean.{AreSeatsOwned, condition_awaited, condition_held}
+use Rattle.pth_laws.specs.Consistent.{AllAwaitOwn, AwaitsOwn}
+use Rattle.pth_laws.specs.Seats.{NoneSeatedTwice}
+use Rattle.pth_laws.specs.Waits.{AllWaitRightly, Names}
 use Rattle.pth_laws.proofs.Seats.{HasFewerSeats, HasLeftAt, seats_at, has_some, seats_gone, entered_other, entered_by}
 use Rattle.pth_laws.proofs.EventSeats.{entered_apart, fewer_left}
+use Rattle.pth_laws.proofs.KeptSeats.{some_has}
 use Rattle.pth_laws.proofs.Allowed.{IsFree, HasLeftSeat, stopped_free}
 use Rattle.pth_laws.proofs.Along.{KeptAlong, IsLifeSafe, IsGone, run_keeps}
 use Rattle.pth_laws.proofs.Arrivals.{lives_on, blocks_so}
@@ -50,6 +54,31 @@ pub record AwaitsAt (c : ℕ) (o : Option Blocked) : Type 0 where
   pub ring : ℤ
   pub named : object_named condition ≡ c
   pub blocked : o ≡ Some (record { call = call.CondAwait condition mutex ring; awaits = Notice condition })
+
+-- who waits for a notice is blocked by a call of pth_cond_await, where it waits for what it may
+awaits_at : (c : ℕ) (o : Option Blocked) → ((d : Blocked) → o ≡ Some d → AwaitsOwn d.call d.awaits × Names d.call d.awaits) → condition_held o ≡ Some c → AwaitsAt c o
+awaits_at c None own h = absurd (none-some c h)
+awaits_at c (Some d) own h = by_awaits d.awaits refl (own d refl).0 (own d refl).1 h
+  where
+    as_named : (y i m : ℤ) → (Notice y ≡ Notice i) ⊎ ((o : Retake) × (Notice y ≡ Retaking m o)) → y ≡ i
+    as_named y i m (inl same) = cc
+    as_named y i m (inr odd) = let retakes = odd.1 in absurd (cc retakes)
+
+    by_call : (y : ℤ) (k : Call) → d.call ≡ k → d.awaits ≡ Notice y → is_await k ≡ true → Names k (Notice y) → object_named y ≡ c → AwaitsAt c (Some d)
+    by_call y (call.CondAwait i m e) called is own named at =
+        let same = as_named y i m named in
+        record {
+          condition = i;
+          mutex = m;
+          ring = e;
+          named = ap object_named (sym same) ∙ at;
+          blocked = ap (λ (k : Call). Some (record { call = k; awaits = d.awaits })) called ∙ ap (λ (a : Awaits). Some (record { call = call.CondAwait i m e; awaits = a })) (is ∙ ap (λ (n : ℤ). Notice n) same);
+        }
+    by_call y k called is own named at = absurd (true≢false (sym own))
+
+    by_awaits : (a : Awaits) → d.awaits ≡ a → AwaitsOwn d.call a → Names d.call a → condition_awaited a ≡ Some c → AwaitsAt c (Some d)
+    by_awaits (Notice y) is own named h = by_call y d.call refl is own named (same_Some (object_named y) c h)
+    by_awaits a is own named h = absurd (none-some c h)
 
 none_awaits : (c : ℕ) → AwaitsAt c None → ⊥
 none_awaits c w = none-some (record { call = call.CondAwait w.condition w.mutex w.ring; awaits = Notice w.condition }) w.blocked
@@ -257,7 +286,7 @@ module _ {P S H : Type 0} where
 
   -- ---- every run
 
-  seated_kept : (f : P → Functions S H) → KeptAlong f AreSeated
+  pub seated_kept : (f : P → Functions S H) → KeptAlong f AreSeated
   seated_kept f = record {
     handlers = record {
       shared = λ h s r. r;
@@ -282,7 +311,7 @@ module _ {P S H : Type 0} where
     barred = λ x s fewer all r. r;
     reached = λ t b round s free alive there waits r. seated_blocks t (call.BarrierReach b) (Round b round) (controlled (with_barriers (barrier_reached b t)) s) free r;
     goes = λ t g s same r. same_goes t g s same r;
-    blocked = λ t c a s free other none may r. seated_begins t c a s free r;
+    blocked = λ t c a s free here other none may r. seated_begins t c a s free r;
     waits_on = λ t a b s at names stays other plain r. seated_on t a b s at other r;
     stopped = λ t x y s fewer others seats left gone r. seated_stopped t y (controlled (with_barriers (λ z. x)) s) seats.fewer gone r;
     takes_seat = λ t c m e s free alive there may r. seated_claims t (call.CondAwait c m e) (Notice c) (extra_ring e) (controlled (with_conditions (seat_entered c (seat_of t))) s) (seated_takes t c m e s free alive there.0 r);
@@ -291,7 +320,7 @@ module _ {P S H : Type 0} where
         seated_blocks t (call.CondAwait c m e) (Retaking m o) (controlled (stops_waiting t) u) (stopped_free t u) (seated_stopped t y s keeps.fewer gone r);
   }
 
-  seated_start : (f : P → Functions S H) (g : Given P) → AreSeated (start f g)
+  pub seated_start : (f : P → Functions S H) (g : Given P) → AreSeated (start f g)
   unfolding start
   seated_start f g = ((λ c u h. absurd (omega (arith, h))), (λ c t. omega arith))
 
@@ -301,7 +330,17 @@ module _ {P S H : Type 0} where
   pub run_single : (f : P → Functions S H) (g : Given P) (i : ℕ) → AreSingle (run f g i).state.control.conditions
   run_single f g i = (run_seated f g i).1
 
-  pub run_seats : (f : P → Functions S H) (g : Given P) (i c t : ℕ) → has_seat (run f g i).state.control.conditions c (Await (tid t)) ≡ true → Lives (run f g i).state t × (condition_held (blocked_of (run f g i).state.control t) ≡ Some c)
-  run_seats f g i c t h =
-      let r = (run_seated f g i).0 c t (has_some (run f g i).state.control.conditions c (seat_of t) h) in
+  pub seats_of : (s : State P S H) → AreSeated s → AreSeatsOwned s
+  seats_of s all c t h =
+      let r = all.0 c t (has_some s.control.conditions c (seat_of t) h) in
       (r.0, ap condition_held r.1.blocked ∙ ap Some r.1.named)
+
+  pub run_seats : (f : P → Functions S H) (g : Given P) (i : ℕ) → AreSeatsOwned (run f g i).state
+  run_seats f g i = seats_of (run f g i).state (run_seated f g i)
+
+  -- and the other way round
+  pub seats_in : (s : State P S H) → AllAwaitOwn s → AllWaitRightly s → AreSeatsOwned s → NoneSeatedTwice s → AreSeated s
+  seats_in s own rightly all single = (
+    (λ c u h. let r = all c u (some_has s.control.conditions c (seat_of u) h) in (r.0, awaits_at c (blocked_of s.control u) (λ d at. (own u d at, (rightly u d at).0)) r.1)),
+    (λ c t. single c (seat_of t)),
+  )

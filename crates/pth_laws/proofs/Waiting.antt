@@ -368,10 +368,10 @@ module _ {P S H : Type 0} where
 
   -- ---- every run
 
-  abbrev Both : State P S H → Type 0
+  abbrev pub Both : State P S H → Type 0
   Both s = AreRightly s × HaveLevels s.resources.store.mutexes
 
-  rightly_kept : (f : P → Functions S H) → KeptAlong f Both
+  pub rightly_kept : (f : P → Functions S H) → KeptAlong f Both
   rightly_kept f = record {
     handlers = record {
       shared = λ h s r. r;
@@ -396,7 +396,7 @@ module _ {P S H : Type 0} where
     barred = λ x s fewer all r. r;
     reached = λ t b round s free alive there waits r. (rightly_goes t (blocking (Some (record { call = call.BarrierReach b; awaits = awaits.Round b round }))) (controlled (with_barriers (barrier_reached b t)) s) (λ p at. (refl, tt)) r.0, r.1);
     goes = λ t g s same r. (rightly_goes t g s (λ p at. subst (Rightly s.resources t) (sym (same p)) (blocked_at s t p.blocked (ap blocked_in at) r.0)) r.0, r.1);
-    blocked = λ t c a s free other none may r. (
+    blocked = λ t c a s free here other none may r. (
       rightly_goes t (blocking (Some (record { call = c; awaits = a }))) (controlled (claims t (ring_given c)) s) (λ x at. (may.names, begins_rightly s.resources t c other may.rightly)) (rightly_claimed t (ring_given c) s r.0),
       r.1,
     );
@@ -406,12 +406,23 @@ module _ {P S H : Type 0} where
     retakes = λ t c m e a o y s fewer gone at r. (rightly_retakes t c m e a o (controlled (with_conditions (λ z. y)) s) at r.0, r.1);
   }
 
-  rightly_start : (f : P → Functions S H) (g : Given P) → Both (start f g)
+  pub rightly_start : (f : P → Functions S H) (g : Given P) → Both (start f g)
   unfolding start
   rightly_start f g = (λ t. put_by (λ (o : Option (Progress S)). Rightly (start f g).resources t (blocked_in o)) (λ u. None) main _ t (λ here. tt) (λ other. tt), λ u m. omega arith)
 
+  pub rightly_of : (s : State P S H) → AreRightly s → AllWaitRightly s
+  rightly_of s r t b at = blocked_at s t (Some b) at r
+
   pub run_rightly : (f : P → Functions S H) (g : Given P) (i : ℕ) → AllWaitRightly (run f g i).state
-  run_rightly f g i t b at = blocked_at (run f g i).state t (Some b) at (run_keeps f Both (rightly_kept f) g (rightly_start f g) i).0
+  run_rightly f g i = rightly_of (run f g i).state (run_keeps f Both (rightly_kept f) g (rightly_start f g) i).0
+
+  -- and the other way round
+  pub both_in : (s : State P S H) → AllWaitRightly s → HaveLevels s.resources.store.mutexes → Both s
+  both_in s all levels = ((λ t. by_blocked t (blocked_of s.control t) refl), levels)
+    where
+      by_blocked : (t : ℕ) (o : Option Blocked) → blocked_of s.control t ≡ o → Rightly s.resources t o
+      by_blocked t None at = tt
+      by_blocked t (Some b) at = all t b at
 
   asks_no_more : (f : P → Functions S H) (s : State P S H) (t : ℕ) (a : Awaits) (c : Call) → Names c a → WaitsRightly s.resources t c → AsksNoMore f s t a c
   unfolding row_of
@@ -425,7 +436,8 @@ module _ {P S H : Type 0} where
   asks_no_more f s t a (call.CondAwait c m e) named h = takes_there t (mutex s m) h.0 h.1
   asks_no_more f s t a c named h = tt
 
+  pub all_ask : (f : P → Functions S H) (s : State P S H) → AllWaitRightly s → AllAskNoMore f s
+  all_ask f s all t b at = let rightly = all t b at in asks_no_more f s t b.awaits b.call rightly.0 rightly.1
+
   pub run_asks : (f : P → Functions S H) (g : Given P) (i : ℕ) → AllAskNoMore f (run f g i).state
-  run_asks f g i t b at =
-      let rightly = run_rightly f g i t b at in
-      asks_no_more f (run f g i).state t b.awaits b.call rightly.0 rightly.1
+  run_asks f g i = all_ask f (run f g i).state (run_rightly f g i)

@@ -53,17 +53,30 @@ condition_awaited a = None
 abbrev pub condition_held : Option Blocked → Option ℕ
 condition_held o = condition_awaited (awaits_in o)
 
-pub record IsClean {P S H : Type 0} (s : State P S H) : Type 0 where
+module _ {P S H : Type 0} (s : State P S H) where
   -- a claim on a ring is that of a thread that lives, for the event that the call was given which blocks it (pth_wait, pth_read_ev)
-  pub claims : (e t : ℕ) → claimant s.control.events e ≡ Some t → Lives s t × (event_held (blocked_of s.control t) ≡ Some e)
-  -- a thread that has a mutex lives, and the mutex is one of 0 to 63 (pth_mutex_acquire)
-  pub mutexes : (m t : ℕ) → has t (s.resources.store.mutexes m) ≡ true → Lives s t × (m < object_limit)
-  -- and so does one that holds a lock, to write or to read (pth_rwlock_acquire)
-  pub locks : (l t : ℕ) → holds s.resources.store.rw_locks t l ≡ true → Lives s t × (l < object_limit)
+  abbrev pub AreClaimsOwned : Type 0
+  AreClaimsOwned = (e t : ℕ) → claimant s.control.events e ≡ Some t → Lives s t × (event_held (blocked_of s.control t) ≡ Some e)
+
   -- an arrival that waits at a barrier is that of a thread that lives, whose call waits there for the round of this arrival
   -- (pth_barrier_reach)
-  pub arrivals : (b round t : ℕ) → has_arrived s.control.barriers b round t ≡ true → Lives s t × (round_held (blocked_of s.control t) ≡ Some (b, round))
+  abbrev pub AreArrivalsOwned : Type 0
+  AreArrivalsOwned = (b round t : ℕ) → has_arrived s.control.barriers b round t ≡ true → Lives s t × (round_held (blocked_of s.control t) ≡ Some (b, round))
+
   -- a thread that has a seat at a condition lives, and its call waits for the notice of this condition (pth_cond_await)
-  pub seats : (c t : ℕ) → has_seat s.control.conditions c (Await (tid t)) ≡ true → Lives s t × (condition_held (blocked_of s.control t) ≡ Some c)
+  abbrev pub AreSeatsOwned : Type 0
+  AreSeatsOwned = (c t : ℕ) → has_seat s.control.conditions c (Await (tid t)) ≡ true → Lives s t × (condition_held (blocked_of s.control t) ≡ Some c)
+
   -- an event that has a seat at a condition is one of this condition, and some thread claims its ring (PTH_EVENT_COND)
-  pub event_seats : (c e : ℕ) → has_seat s.control.conditions c (event_seat e) ≡ true → (option_map object_named (condition_in (s.control.events.events e)) ≡ Some c) × (is_claimed s.control.events e ≡ true)
+  abbrev pub AreEventSeatsOwned : Type 0
+  AreEventSeatsOwned = (c e : ℕ) → has_seat s.control.conditions c (event_seat e) ≡ true → (option_map object_named (condition_in (s.control.events.events e)) ≡ Some c) × (is_claimed s.control.events e ≡ true)
+
+  pub record IsClean : Type 0 where
+    pub claims : AreClaimsOwned
+    -- a thread that has a mutex lives, and the mutex is one of 0 to 63 (pth_mutex_acquire)
+    pub mutexes : (m t : ℕ) → has t (s.resources.store.mutexes m) ≡ true → Lives s t × (m < object_limit)
+    -- and so does one that holds a lock, to write or to read (pth_rwlock_acquire)
+    pub locks : (l t : ℕ) → holds s.resources.store.rw_locks t l ≡ true → Lives s t × (l < object_limit)
+    pub arrivals : AreArrivalsOwned
+    pub seats : AreSeatsOwned
+    pub event_seats : AreEventSeatsOwned

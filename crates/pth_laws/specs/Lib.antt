@@ -17,3 +17,4 @@ pub mod Priorities
 pub mod Holders
 pub mod Rings
 pub mod Refusals
+pub mod Consistent

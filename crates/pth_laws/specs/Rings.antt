@@ -1,5 +1,5 @@
 -- Rings of events, and the claims of threads that wait for them (pth_wait, and the calls that are given a ring beside).
-use Rattle.std.specs.Prelude.{◌≡◌, ℕ, true, Some}
+use Rattle.std.specs.Prelude.{◌≡◌, ◌≤◌, ℕ, true, Some}
 use Rattle.pth_base.specs.Chain.{Distinct}
 use Rattle.pth_ring.specs.Ring.{ring_holds, turned}
 use Rattle.pth_ring.specs.Rings.{is_event}
@@ -19,8 +19,12 @@ pub record AreRingsHeld {P S H : Type 0} (s : State P S H) : Type 0 where
 pub record AreRingsCircles {P S H : Type 0} (s : State P S H) : Type 0 where
   -- an event stands in its ring
   pub own : (e : ℕ) → is_event s.control.events e ≡ true → ring_holds e (s.control.events.rings e) ≡ true
+  -- and only what stands in its own ring has one
+  pub begun : (e g : ℕ) → ring_holds g (s.control.events.rings e) ≡ true → ring_holds e (s.control.events.rings e) ≡ true
   -- and what stands in a ring is an event
   pub events : (e g : ℕ) → ring_holds g (s.control.events.rings e) ≡ true → is_event s.control.events g ≡ true
+  -- its number is not above that of the last event that was made
+  pub made : (e g : ℕ) → ring_holds g (s.control.events.rings e) ≡ true → g ≤ s.control.events.made
   -- nothing stands in a ring twice
   pub once : (e : ℕ) → Distinct (s.control.events.rings e)
   -- the ring of another event of a ring is this ring, read from that event on

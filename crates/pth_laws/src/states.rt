@@ -1,9 +1,18 @@
 //! Laws of the states of every run of every program.
 
-ghost use Rattle.std.specs.Prelude.{ℕ};
+ghost use Rattle.std.specs.Prelude.{◌≡◌, ℕ, ℤ, None};
+ghost use Rattle.pth_base.specs.declared.call.Call.{Call};
+ghost use Rattle.pth_base.specs.declared.ids.HandlerId.{HandlerId};
+ghost use Rattle.pth_model.specs.Acts.{handled};
+ghost use Rattle.pth_model.specs.Calls.{begun, gone_on};
+ghost use Rattle.pth_model.specs.Changes.{blocked_of};
+ghost use Rattle.pth_model.specs.Ending.{ending};
+ghost use Rattle.pth_model.specs.Part.{moves};
+ghost use Rattle.pth_model.specs.Pass.{pass};
 ghost use Rattle.pth_model.specs.Run.{run};
-ghost use Rattle.pth_model.specs.State.{Given};
+ghost use Rattle.pth_model.specs.State.{Given, State, Turn, start};
 ghost use Rattle.pth_laws.specs.Arrivals.{AllArrivedAtOne, AllHaveArrived, NoneArrivedTwice};
+ghost use Rattle.pth_laws.specs.Consistent.{AreWaitsConsistent, IsCaller};
 ghost use Rattle.pth_laws.specs.Holders.{AreHoldersApart};
 ghost use Rattle.pth_laws.specs.Kept.{IsWaitKept};
 ghost use Rattle.pth_laws.specs.Priorities.{HasBasePriorities};
@@ -66,4 +75,25 @@ pub fn every_run_keeps_seats<P: Program>()
 /// suspended one.
 pub fn every_wait_is_kept<P: Program>()
     ensures { (g : Given P) (i : ℕ) → IsWaitKept (run P.functions g i).state }
+{}
+
+/// What is consistent of waits stays so, whoever makes the calls and in whatever order: from each state that is, with a call that the
+/// thread that runs begins, among them `pth_cancel`, `pth_abort` and `pth_cancel_point`, and with the one that blocks it as it goes on;
+/// with the end of any thread, and the acts of a handler; and with a pass, and a move of idle time. Every run begins so, and so each of
+/// its states is consistent.
+pub fn waits_stay_consistent<P: Program>()
+    ensures started { (g : Given P) → AreWaitsConsistent (start P.functions g) }
+    ensures begun { (t : ℕ) (c : Call) (s : State P P.State P.Shared) → IsCaller s t → blocked_of s.control t ≡ None → AreWaitsConsistent s → AreWaitsConsistent (begun P.functions t c s).told.state }
+    ensures gone_on { (t : ℕ) (s : State P P.State P.Shared) → IsCaller s t → AreWaitsConsistent s → AreWaitsConsistent (gone_on P.functions t s).told.state }
+    ensures ended { (t : ℕ) (v : ℤ) (s : State P P.State P.Shared) → AreWaitsConsistent s → AreWaitsConsistent (ending P.functions t v s).state }
+    ensures handled { (t : ℕ) (h : HandlerId) (v : ℤ) (s : State P P.State P.Shared) → AreWaitsConsistent s → AreWaitsConsistent (handled P.functions t h v s).state }
+    ensures passed { (s : State P P.State P.Shared) → AreWaitsConsistent s → AreWaitsConsistent (pass P.functions s).state }
+    ensures moved { (x : Turn) (s : State P P.State P.Shared) → AreWaitsConsistent s → AreWaitsConsistent (moves P.functions x s).state }
+    ensures runs { (g : Given P) (i : ℕ) → AreWaitsConsistent (run P.functions g i).state }
+{}
+
+/// A call that is tried again asks no more than that a mutex is free, that a lock lets its thread in, or that no other thread has the
+/// mutex that is to be taken back: in every state whose waits are consistent, and not only in those of runs.
+pub fn consistent_waits_ask_no_more<P: Program>()
+    ensures { (s : State P P.State P.Shared) → AreWaitsConsistent s → AllAskNoMore P.functions s }
 {}
