@@ -1,7 +1,8 @@
 -- Arrivals at a barrier, when some are marked, added or taken out.
-use Rattle.std.proofs.Common.{◌≡◌, ℕ, ◌+◌, ◌≤◌, ◌==◌, Bool, true, false, not, ◌||◌, if◌then◌else◌, List, [], ◌∷◌, ◌++◌, map, take, drop, refl, sym, ◌∙◌, ap, arith}
+use Rattle.std.proofs.Common.{◌≡◌, ℕ, suc, ◌+◌, ◌≤◌, ◌==◌, Bool, true, false, not, ◌||◌, if◌then◌else◌, List, [], ◌∷◌, ◌++◌, length, map, take, drop, refl, sym, ◌∙◌, ap, arith}
 use Rattle.std.specs.List.{list_any}
-use Rattle.std.proofs.lemmas.List.Sums.{sum_by-cons, sum_by_push}
+use Rattle.std.proofs.lemmas.List.{length-map}
+use Rattle.std.proofs.lemmas.List.Sums.{sum_by-cons, sum_by_push, length-filter, count_by-le-length}
 use Rattle.pth_cond.specs.Barriers.{Arrived, arrived_in, without_thread, made_late, late_behind}
 use Rattle.pth_cond.specs.Kept.{arrivals_of}
 use Rattle.pth_cond.specs.declared.barriers.arrivals.Waiter.{Waiter}
@@ -49,6 +50,22 @@ either_late r q t false xs same = same
 pub arrived_in-late_behind : (r q t : ℕ) (xs : List Arrived) → arrived_in r (late_behind t q xs) ≡ arrived_in r xs
 arrived_in-late_behind r q t [] = refl
 arrived_in-late_behind r q t (a ∷ xs) = one_late r false a xs (if a.tid == t then made_late q xs else late_behind t q xs) (either_late r q t (a.tid == t) xs (arrived_in-late_behind r q t xs))
+
+-- ---- how many wait
+
+pub length-without : (t : ℕ) (xs : List Arrived) → length (without_thread t xs) ≤ length xs
+length-without t xs = omega (arith, length-filter (λ a. not (a.tid == t)) xs, count_by-le-length (λ a. not (a.tid == t)) xs)
+
+length-made_late : (r : ℕ) (xs : List Arrived) → length (made_late r xs) ≡ length xs
+length-made_late r xs = length-map xs (λ (a : Arrived). if a.round == r then record a { late = true } else a)
+
+either_length : (r t : ℕ) (b : Bool) (xs : List Arrived) → length (late_behind t r xs) ≡ length xs → length (if b then made_late r xs else late_behind t r xs) ≡ length xs
+either_length r t true xs same = length-made_late r xs
+either_length r t false xs same = same
+
+pub length-late_behind : (r t : ℕ) (xs : List Arrived) → length (late_behind t r xs) ≡ length xs
+length-late_behind r t [] = refl
+length-late_behind r t (a ∷ xs) = ap suc (either_length r t (a.tid == t) xs (length-late_behind r t xs))
 
 -- ---- marking, from place to place
 

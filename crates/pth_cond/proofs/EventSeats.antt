@@ -1,8 +1,8 @@
 -- How many seats events have before and after a call.
-use Rattle.std.proofs.Common.{◌≡◌, ℕ, ◌+◌, ◌-◌, ◌<◌, ◌≤◌, Bool, true, false, if◌then◌else◌, List, [], ◌∷◌, ◌++◌, length, get_or, set, map, take, drop, Some, None, refl, sym, ◌∙◌, ap, inl, inr, append-nil, arith}
+use Rattle.std.proofs.Common.{◌≡◌, ℕ, suc, ◌+◌, ◌-◌, ◌*◌, ◌<◌, ◌≤◌, Bool, true, false, if◌then◌else◌, List, [], ◌∷◌, ◌++◌, length, get_or, set, map, take, drop, Some, None, refl, sym, ◌∙◌, ap, inl, inr, append-nil, arith}
 use Rattle.std.specs.List.{list_any}
 use Rattle.std.proofs.lemmas.List.{get_or_past, take_all, drop_all}
-use Rattle.std.proofs.lemmas.List.Sums.{sum_by-cons, sum_by_push, sum_by-set, get_or-le-sum_by}
+use Rattle.std.proofs.lemmas.List.Sums.{sum_by-cons, sum_by_push, sum_by-set, get_or-le-sum_by, count_by-le-length}
 use Rattle.std.proofs.lemmas.Bool.{cases_lt}
 use Rattle.pth_base.specs.declared.ids.EventId.{EventId}
 use Rattle.pth_cond.specs.declared.seats.Seat.{Seat}
@@ -10,7 +10,7 @@ use Rattle.pth_cond.specs.declared.seats.Seat.TheVariants.{Await, Event}
 use Rattle.pth_cond.specs.declared.seats.Notice.TheVariants.{Unmarked, One}
 use Rattle.pth_cond.specs.declared.seats.Taken.{Taken}
 use Rattle.pth_cond.specs.Seats.{is_seat, is_at, is_event, is_one_at, has_mark, event_seats, event_seats_gone, notice_at, with_seat, without_seat, one_notified, all_notified, notified, handed_on}
-use Rattle.pth_cond.specs.Conditions.{Condition, conditions_of, has_seat_here, NoEventIsSeated, event_seats_here, all_event_seats, all_left}
+use Rattle.pth_cond.specs.Conditions.{Condition, conditions_of, has_seat_here, HasFewEvents, NoEventIsSeated, event_seats_here, all_event_seats, all_left}
 use Rattle.pth_cond.proofs.Seating.{cases, marked_all, one_more, one_here}
 
 -- ---- one condition
@@ -21,6 +21,10 @@ events_cons t ts = sum_by-cons (λ x. if is_event x.seat then 1 else 0) t ts
 -- a seat is entered
 pub events_entered : (s : Seat) (ts : List Taken) → event_seats (with_seat s ts) ≡ event_seats ts + (if is_event s then 1 else 0)
 events_entered s ts = sum_by_push (λ x. if is_event x.seat then 1 else 0) ts (record { seat = s; notice = Unmarked })
+
+-- no more than seats
+pub events_within : (ts : List Taken) → event_seats ts ≤ length ts
+events_within ts = count_by-le-length (λ t. is_event t.seat) ts
 
 -- a seat is left
 same_kind : (s u : Seat) → is_seat s u ≡ true → is_event s ≡ is_event u
@@ -47,6 +51,9 @@ module _ (s : Seat) where
   events_left [] = refl
   events_left (t ∷ ts) = cases (is_at s t) (gone_here t ts) (λ e. gone_behind t ts e (events_left ts))
 
+pub left_lessens : (s : Seat) (ts : List Taken) → event_seats (without_seat s ts) ≤ event_seats ts
+left_lessens s ts = omega (arith, events_left s ts)
+
 -- some are notified
 events_same : (t u : Taken) (ts us : List Taken) → u.seat ≡ t.seat → event_seats us ≡ event_seats ts → event_seats (u ∷ us) ≡ event_seats (t ∷ ts)
 events_same t u ts us same rest = events_cons u us ∙ rw (same, rest) (sym (events_cons t ts))
@@ -68,6 +75,9 @@ pub events_notified : (all : Bool) (ts : List Taken) → event_seats (notified a
 events_notified true ts = events_all ts
 events_notified false ts = events_one ts
 
+pub notified_lessens : (all : Bool) (ts : List Taken) → event_seats (notified all ts) ≤ event_seats ts
+notified_lessens all ts = omega (arith, events_notified all ts)
+
 -- a seat is handed on
 pub events_handed_on : (s : Seat) (ts : List Taken) → event_seats (handed_on s ts) + event_seats_gone s (notice_at s ts) ≡ event_seats ts
 events_handed_on s ts =
@@ -75,7 +85,18 @@ events_handed_on s ts =
     let same : event_seats (handed_on s ts) ≡ event_seats (without_seat s ts) = cases (is_one_at (notice_at s ts)) (λ e. rw e (events_one (without_seat s ts))) (λ e. rw e) in
     omega arith
 
+pub handed_on_lessens : (s : Seat) (ts : List Taken) → event_seats (handed_on s ts) ≤ event_seats ts
+handed_on_lessens s ts = omega (arith, events_handed_on s ts)
+
 -- ---- all conditions
+
+-- if each has few, so have all
+pub total_few : (xs : List Condition) → ((c : ℕ) → HasFewEvents (conditions_of xs c)) → all_event_seats xs ≤ length xs * 18446744073709551616
+total_few [] few = omega arith
+total_few (x ∷ xs) few =
+    let here : event_seats_here x < 18446744073709551616 = few 0 in
+    let rest = total_few xs (λ c. few (suc c)) in
+    omega (arith, sum_by-cons event_seats_here x xs, here, rest)
 
 module _ (xs : List Condition) (k : ℕ) (low : k < length xs) (d : Condition) where
   -- the seats of a condition are others

@@ -3,15 +3,15 @@ use Rattle.std.proofs.Common.{◌≡◌, ℕ, suc, ◌+◌, ◌<◌, ◌≤◌, 
 use Rattle.std.proofs.lemmas.List.{get_or_past, get_or_default, get_or-map, length-map, take_all, drop_all}
 use Rattle.std.proofs.lemmas.List.Edits.{map_over_more}
 use Rattle.std.proofs.lemmas.List.Sums.{sum_by-cons}
-use Rattle.std.proofs.lemmas.Bool.{cases_lt}
+use Rattle.std.proofs.lemmas.Bool.{cases_lt, cases_eq}
 use mathlib.Core.Path.{fun_ext}
 use Rattle.pth_base.specs.Table.{put}
-use Rattle.pth_base.proofs.Tables.{put_by}
+use Rattle.pth_base.proofs.Tables.{put_by, put_here, put_other}
 use Rattle.pth_base.proofs.Lists.{table_set, put_none}
 use Rattle.pth_lock.specs.Objects.{object_limit}
 use Rattle.pth_cond.specs.declared.seats.Taken.{Taken}
-use Rattle.pth_cond.specs.Seats.{marks_stand_first}
-use Rattle.pth_cond.specs.Conditions.{Condition, ConditionTable, conditions_of, all_event_seats, event_seats_here, with_seats, no_conditions, all_left, all_seats_left, IsAnyLive, IsInOrder, ConditionsAreKept}
+use Rattle.pth_cond.specs.Seats.{event_seats, marks_stand_first}
+use Rattle.pth_cond.specs.Conditions.{Condition, ConditionTable, conditions_of, all_event_seats, event_seats_here, with_seats, no_conditions, all_left, all_seats_left, HasFewEvents, IsAnyLive, IsInOrder, ConditionsAreKept}
 
 -- ---- one condition
 
@@ -63,20 +63,45 @@ live_here change None = refl
 live_with_seats : (k : ℕ) (change : List Taken → List Taken) (x : ConditionTable) (c : ℕ) → is_some (with_seats k change x c) ≡ is_some (x c)
 live_with_seats k change x c = put_by (λ y. is_some y ≡ is_some (x c)) x k (option_map change (x k)) c (λ here. live_here change (x k) ∙ ap (λ (i : ℕ). is_some (x i)) (sym here)) (λ apart. refl)
 
+-- events have no more seats than before
+abbrev Lessens : (List Taken → List Taken) → Type 0
+Lessens change = (ts : List Taken) → event_seats (change ts) ≤ event_seats ts
+
+few_lessened : (change : List Taken → List Taken) → Lessens change → (y : Condition) → HasFewEvents y → HasFewEvents (option_map change y)
+few_lessened change lessens (Some ts) few = omega (arith, lessens ts, few)
+few_lessened change lessens None few = few
+
+few_left : (y : Condition) → HasFewEvents (all_left y)
+few_left (Some ts) = omega arith
+few_left None = omega arith
+
 module _ {live : Bool} {n : ℕ} (olds news : List Condition) (kept : ConditionsAreKept live n olds) (long : length news ≡ length olds) where
-  pub kept_changed : {m : ℕ} (k : ℕ) (change : List Taken → List Taken) → KeepsOrder change → conditions_of news ≡ with_seats k change (conditions_of olds) → m ≡ all_event_seats news → ConditionsAreKept live m news
-  kept_changed k change keeps is count = record {
+  -- where the seats of one condition are others
+  few_after : (k : ℕ) (change : List Taken → List Taken) → conditions_of news ≡ with_seats k change (conditions_of olds) → HasFewEvents (conditions_of news k) → (c : ℕ) → HasFewEvents (conditions_of news c)
+  few_after k change is here c = elim (cases_eq c k) [
+    | inl same ↦ rw same here
+    | inr apart ↦ subst HasFewEvents (sym (ap (λ (f : ConditionTable). f c) is ∙ put_other (conditions_of olds) k (option_map change (conditions_of olds k)) c apart)) (kept.few c)
+  ]
+
+  pub few_here : (k : ℕ) (change : List Taken → List Taken) → Lessens change → conditions_of news ≡ with_seats k change (conditions_of olds) → HasFewEvents (conditions_of news k)
+  few_here k change lessens is =
+      let at = ap (λ (f : ConditionTable). f k) is ∙ put_here (conditions_of olds) k (option_map change (conditions_of olds k)) in
+      subst HasFewEvents (sym at) (few_lessened change lessens (conditions_of olds k) (kept.few k))
+
+  pub kept_changed : {m : ℕ} (k : ℕ) (change : List Taken → List Taken) → KeepsOrder change → conditions_of news ≡ with_seats k change (conditions_of olds) → m ≡ all_event_seats news → HasFewEvents (conditions_of news k) → ConditionsAreKept live m news
+  kept_changed k change keeps is count few = record {
     many = long ∙ kept.many;
     order = λ c. subst IsInOrder (sym (ap (λ (f : ConditionTable). f c) is))
         (put_by IsInOrder (conditions_of olds) k (option_map change (conditions_of olds k)) c (λ here. in_order change keeps (conditions_of olds k) (kept.order k)) (λ apart. kept.order c));
     live = any_live_kept live (conditions_of olds) (conditions_of news) (λ c. ap (λ (f : ConditionTable). is_some (f c)) is ∙ live_with_seats k change (conditions_of olds) c) kept.live;
     count = count;
+    few = few_after k change is few;
   }
 
   -- the same of a call that may be refused
-  pub kept_answered : {T E : Type 0} (r : Result T E) {m : ℕ} (k : ℕ) (change : List Taken → List Taken) → KeepsOrder change → OnOk r (conditions_of news ≡ with_seats k change (conditions_of olds)) → OnErr r (news ≡ olds) → m ≡ all_event_seats news → ConditionsAreKept live m news
-  kept_answered (Ok done) k change keeps is same count = kept_changed k change keeps is count
-  kept_answered (Err e) k change keeps is same count = record { many = long ∙ kept.many; order = rw same kept.order; live = rw same kept.live; count = count }
+  pub kept_answered : {T E : Type 0} (r : Result T E) {m : ℕ} (k : ℕ) (change : List Taken → List Taken) → KeepsOrder change → OnOk r (conditions_of news ≡ with_seats k change (conditions_of olds)) → OnErr r (news ≡ olds) → m ≡ all_event_seats news → OnOk r (HasFewEvents (conditions_of news k)) → ConditionsAreKept live m news
+  kept_answered (Ok done) k change keeps is same count few = kept_changed k change keeps is count few
+  kept_answered (Err e) k change keeps is same count few = record { many = long ∙ kept.many; order = rw same kept.order; live = rw same kept.live; count = count; few = rw same kept.few }
 
   pub kept_left : conditions_of news ≡ all_seats_left (conditions_of olds) → all_event_seats news ≡ 0 → ConditionsAreKept live 0 news
   kept_left is none = record {
@@ -84,6 +109,7 @@ module _ {live : Bool} {n : ℕ} (olds news : List Condition) (kept : Conditions
     order = λ c. subst IsInOrder (sym (ap (λ (f : ConditionTable). f c) is)) (in_order (λ ts. []) (λ ts order. refl) (conditions_of olds c) (kept.order c));
     live = any_live_kept live (conditions_of olds) (conditions_of news) (λ c. ap (λ (f : ConditionTable). is_some (f c)) is ∙ live_here (λ ts. []) (conditions_of olds c)) kept.live;
     count = sym none;
+    few = λ c. subst HasFewEvents (sym (ap (λ (f : ConditionTable). f c) is)) (few_left (conditions_of olds c));
   }
 
 module _ {live : Bool} {n : ℕ} (xs : List Condition) (kept : ConditionsAreKept live n xs) where
@@ -116,6 +142,7 @@ module _ (xs : List Condition) (long : length xs ≡ object_limit) (none : (k : 
     order = λ c. subst IsInOrder (sym (none_at c)) tt;
     live = conditions_none;
     count = sym (no_seats xs none_at);
+    few = λ c. subst HasFewEvents (sym (none_at c)) (omega arith);
   }
 
 -- ---- all seats are left

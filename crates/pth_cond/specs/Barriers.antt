@@ -182,12 +182,14 @@ barriers_of xs b = table None xs b
 
 -- ---- what holds at every moment
 
--- rounds have from 1 to 4,096 arrivals, and are numbered from 1; fewer arrivals wait for the current round than make it
+-- rounds have from 1 to 4,096 arrivals, and are numbered from 1; fewer arrivals wait for the current round than make it, and at
+-- most 4,096 wait in all
 pub record BarrierIsSound (b : Barrier) : Type 0 where
   pub some : 0 < b.size
   pub many : b.size ≤ arrival_limit
   pub first : 0 < b.round
   pub waiting : arrived_in b.round b.arrivals < b.size
+  pub few : length b.arrivals ≤ arrival_limit
 
 -- what the table says at every moment
 pub record BarriersAreSound (x : BarrierTable) : Type 0 where

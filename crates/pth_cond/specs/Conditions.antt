@@ -1,5 +1,5 @@
 -- Conditions: which are initialised, and who has which seat at each (pth_cond_init, pth_cond_await, pth_cond_notify).
-use Rattle.std.specs.Prelude.{◌≡◌, ℕ, ◌≤◌, ℤ, Bool, true, false, not, if◌then◌else◌, List, [], length, Option, Some, None, is_some, is_none, option_map, Result, Ok, Err, sum_by}
+use Rattle.std.specs.Prelude.{◌≡◌, ℕ, ◌<◌, ◌≤◌, ◌^◌, ℤ, Bool, true, false, not, if◌then◌else◌, List, [], length, Option, Some, None, is_some, is_none, option_map, Result, Ok, Err, sum_by}
 use Rattle.std.specs.List.{list_any}
 use Rattle.pth_base.specs.Table.{put, table}
 use Rattle.pth_base.specs.declared.ids.EventId.{EventId}
@@ -128,6 +128,10 @@ abbrev pub event_seats_here : Condition → ℕ
 event_seats_here None = 0
 event_seats_here (Some ts) = event_seats ts
 
+-- those at a condition are counted by 64 bits
+abbrev pub HasFewEvents : Condition → Type 0
+HasFewEvents y = event_seats_here y < 2 ^ 64
+
 -- how many they have at all conditions
 abbrev pub all_event_seats : List Condition → ℕ
 all_event_seats conditions = sum_by event_seats_here conditions
@@ -143,3 +147,4 @@ pub record ConditionsAreKept (any_live : Bool) (counted : ℕ) (conditions : Lis
   pub order : (c : ℕ) → IsInOrder (conditions_of conditions c)
   pub live : IsAnyLive any_live (conditions_of conditions)
   pub count : counted ≡ all_event_seats conditions
+  pub few : (c : ℕ) → HasFewEvents (conditions_of conditions c)

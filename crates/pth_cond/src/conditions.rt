@@ -1,13 +1,12 @@
 //! Conditions.
 
-ghost use Rattle.std.specs.Prelude.{◌≡◌, ◌<◌, ◌+◌, false, nat_lt, length, if◌then◌else◌, IfOk, OnOk, OnErr};
+ghost use Rattle.std.specs.Prelude.{◌≡◌, ◌<◌, ◌^◌, false, nat_lt, length, if◌then◌else◌, OnOk, OnErr};
 ghost use Rattle.pth_store.specs.Storing.{AnswersWithMemory};
 ghost use Rattle.pth_cond.specs.Seats.{with_seat, without_seat, notified, handed_on, is_event, event_seats_gone, HandingOnKeepsOnes};
-ghost use Rattle.pth_cond.specs.Conditions.{conditions_of, is_live, is_marked_in, is_marked, IsAnyLive, NoEventIsSeated, ConditionsAreSound, all_event_seats, live_answer, cond_init_answer, cond_enter_answer, cond_notify_answer, no_conditions, cond_initialised, with_seats, seat_entered, seat_left, seat_handed_on, cond_notified, all_left, all_seats_left};
+ghost use Rattle.pth_cond.specs.Conditions.{conditions_of, is_live, is_marked_in, is_marked, IsAnyLive, HasFewEvents, NoEventIsSeated, ConditionsAreSound, all_event_seats, live_answer, cond_init_answer, cond_enter_answer, cond_notify_answer, no_conditions, cond_initialised, with_seats, seat_entered, seat_left, seat_handed_on, cond_notified, all_left, all_seats_left};
 
 use crate::seats::{Notice, Seat, Seats};
 use pth_base::errno::Errno;
-use pth_base::memory::OutOfMemory;
 use pth_base::refusal::Refusal;
 use pth_lock::objects::{MOST_OBJECTS, place_of};
 use std::alloc::Global;
@@ -21,8 +20,8 @@ pub struct Conds {
     conditions: [Option<Seats>; MOST_OBJECTS],
     // Whether one was initialised.
     any_live: bool,
-    // How many seats events have, at all conditions.
-    event_seats: u64,
+    // How many seats events have, at all conditions: each has fewer than 2^64, so that their sum fits.
+    event_seats: u128,
 }
 
 impl Model for Conds {
@@ -186,43 +185,46 @@ fn is_marked_at(condition: &Option<Seats>, seat: Seat) -> bool
     }
 }
 
-// How many seats events have after a seat was entered: OutOfMemory where that would be 2^64 or more.
-fn with_entered(event_seats: u64, seat: Seat) -> Result<u64, OutOfMemory>
-    ensures { IfOk result (λ n. n ≡ event_seats + (if is_event seat then 1 else 0)) }
+// How many seats of events come with a seat that is entered.
+fn events_come(seat: Seat) -> u128
+    ensures { result ≡ (if is_event seat then 1 else 0) }
 {
-    event_seats
-        .checked_add(u64::from(seat.is_event()))
-        .ok_or(OutOfMemory)
+    if seat.is_event() { 1 } else { 0 }
 }
 
 // How many seats of events go with a seat that is left, of which this was the mark.
-fn events_gone(seat: Seat, mark: Option<Notice>) -> u64
+fn events_gone(seat: Seat, mark: Option<Notice>) -> u128
     ensures { result ≡ event_seats_gone seat mark }
 {
-    u64::from(mark.is_some() && seat.is_event())
+    if mark.is_some() && seat.is_event() {
+        1
+    } else {
+        0
+    }
 }
 
 // Enters a seat at the condition at a place.
 fn enter_at(
     conditions: &mut [Option<Seats>],
-    event_seats: &mut u64,
+    event_seats: &mut u128,
     place: usize,
     seat: Seat,
 ) -> Result<(), Refusal>
     requires low { place < length conditions.old }
     requires counted { event_seats.old ≡ all_event_seats conditions.old }
+    requires few { event_seats.old < 2 ^ 71 }
     ensures answer { AnswersWithMemory (live_answer (conditions_of conditions.old place)) result }
     ensures long { length conditions.new ≡ length conditions.old }
     ensures changes { OnOk result (conditions_of conditions.new
         ≡ with_seats place (with_seat seat) (conditions_of conditions.old)) }
     ensures counted { event_seats.new ≡ all_event_seats conditions.new }
+    ensures few { OnOk result (HasFewEvents (conditions_of conditions.new place)) }
     ensures refused { OnErr result (conditions.new ≡ conditions.old) }
 {
     match &mut conditions[place] {
         Some(seats) => {
-            let count = with_entered(*event_seats, seat)?;
             seats.enter(seat)?;
-            *event_seats = count;
+            *event_seats += events_come(seat);
             Ok(())
         }
         None => Err(Refusal::Fail(Errno::EINVAL)),
@@ -230,7 +232,7 @@ fn enter_at(
 }
 
 // Leaves a seat of the condition at a place.
-fn leave_at(conditions: &mut [Option<Seats>], event_seats: &mut u64, place: usize, seat: Seat)
+fn leave_at(conditions: &mut [Option<Seats>], event_seats: &mut u128, place: usize, seat: Seat)
     requires low { place < length conditions.old }
     requires counted { event_seats.old ≡ all_event_seats conditions.old }
     ensures long { length conditions.new ≡ length conditions.old }
@@ -245,7 +247,7 @@ fn leave_at(conditions: &mut [Option<Seats>], event_seats: &mut u64, place: usiz
 }
 
 // Hands a seat of the condition at a place on.
-fn hand_on_at(conditions: &mut [Option<Seats>], event_seats: &mut u64, place: usize, seat: Seat)
+fn hand_on_at(conditions: &mut [Option<Seats>], event_seats: &mut u128, place: usize, seat: Seat)
     requires low { place < length conditions.old }
     requires counted { event_seats.old ≡ all_event_seats conditions.old }
     ensures long { length conditions.new ≡ length conditions.old }

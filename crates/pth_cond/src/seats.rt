@@ -1,6 +1,6 @@
 //! The seats of a condition.
 
-ghost use Rattle.std.specs.Prelude.{◌≡◌, ◌<◌, length, [], position, OnOk, OnErr};
+ghost use Rattle.std.specs.Prelude.{◌≡◌, ◌<◌, ◌^◌, length, [], position, OnOk, OnErr};
 ghost use Rattle.std.specs.List.{list_any};
 ghost use Rattle.pth_cond.specs.Seats.{is_seat, is_at, is_mark, notice_at, is_marked_at, with_seat, without_seat, one_notified, all_notified, notified, handed_on, is_event, seat_number, SeatsAreKept};
 
@@ -112,6 +112,7 @@ impl Seats {
     // A seat is entered last, without a mark.
     pub(crate) fn enter(&mut self, seat: Seat) -> Result<(), OutOfMemory>
         ensures changes { OnOk result (self.new ≡ with_seat seat self.old) }
+        ensures few { OnOk result (length self.new < 2 ^ 64) }
         ensures refused { OnErr result (self.new ≡ self.old) }
     {
         self.taken.push(Taken {
