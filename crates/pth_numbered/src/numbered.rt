@@ -5,6 +5,7 @@ ghost use Rattle.std.specs.List.Sorted.{IsStrictlyIncreasing};
 ghost use Rattle.std.specs.Borrow.{Lends, sem};
 ghost use Rattle.std.specs.BTreeMap.{keys, IsOrdered};
 ghost use Rattle.std.specs.Ordering.{nat_cmp};
+ghost use Rattle.slab.specs.Slab.{get};
 ghost use Rattle.pth_base.specs.Limits.{thread_limit};
 ghost use Rattle.pth_numbered.specs.Numbered.{thing_at, number_at, slot_of, count, with_thing, IsKept, Adds, Changes, Removes};
 ghost use Rattle.pth_numbered.specs.contracts.numbered.Numbered.{the_row};
@@ -145,14 +146,9 @@ impl<T: Drop> Numbered<T> {
         if self.records.len() == limit {
             return Err(AddErr::TooMany);
         }
-        // A slab makes a new key only where each key so far is in use, and so this is never met.
-        let key = self.records.vacant_key();
-        if key >= limit {
-            return Err(AddErr::OutOfMemory);
-        }
+        let slot = next_slot(&self.records, self.limit)?;
         self.records.reserve(1)?;
         let number = self.made + 1;
-        let slot = key as u32;
         keep_recent(&mut self.recent, number, slot)?;
         let _none = self.index.insert(number, slot)?;
         let _key = self.records.insert_reserved(Record { number, thing });
@@ -195,6 +191,21 @@ impl<T: Drop> Numbered<T> {
     {
         Ok(keys_of(&self.index, alloc)?)
     }
+}
+
+// The slot of the next thing, which is the next key of the slab. Want of memory exactly where that is not below the limit. A slab
+// makes a new key only where each key so far is in use, and so none comes to that; but its statements leave the next key open.
+fn next_slot<T>(records: &Slab<Record<T>>, limit: u32) -> Result<u32, OutOfMemory>
+    ensures key { IfOk result (λ s. s ≡ records.now.vacant_key) }
+    ensures vacant { IfOk result (λ s. get records.now s ≡ None) }
+    ensures low { IfOk result (λ s. s < limit) }
+    ensures memory { OnErr result (limit ≤ records.now.vacant_key) }
+{
+    let key = records.vacant_key();
+    if key >= limit as usize {
+        return Err(OutOfMemory);
+    }
+    Ok(key as u32)
 }
 
 // The thing with this number is the latest with its last bits.

@@ -23,12 +23,14 @@ other_err r d is e h = cc
 pub returns-then-len-limit-clause-too_many : goal.returns-then-len-limit-clause-too_many
 returns-then-len-limit-clause-too_many g c = rw (← c.self.view_is) (many _ _ c.len.result c.len.ensures c.if-len-limit.true refl)
 
-pub returns-then-key-limit-clause-too_many : goal.returns-then-key-limit-clause-too_many
-returns-then-key-limit-clause-too_many g c = rw (← c.self.view_is) (few _ _ c.len.result c.len.ensures c.if-len-limit.false (λ h. cc))
+pub returns-in_err-slot-clause-too_many : goal.returns-in_err-slot-clause-too_many
+returns-in_err-slot-clause-too_many g c =
+    let p = err_from_is_err_and c.from_residual.result c.from_residual.ensures.1 in
+    rw (← c.self.view_is) (few _ _ c.len.result c.len.ensures c.if-len-limit.false (other_err _ p.0 p.1 p.2))
 
 pub returns-in_err-reserve-clause-too_many : goal.returns-in_err-reserve-clause-too_many
 returns-in_err-reserve-clause-too_many g c =
-    let p = err_from_is_err_and c.from_residual.result c.from_residual.ensures.1 in
+    let p = err_from_is_err_and c.from_residual-in_err-reserve.result c.from_residual-in_err-reserve.ensures.1 in
     rw (← c.self.view_is) (few _ _ c.len.result c.len.ensures c.if-len-limit.false (other_err _ p.0 p.1 p.2))
 
 pub returns-in_err-keep_recent-clause-too_many : goal.returns-in_err-keep_recent-clause-too_many
@@ -44,25 +46,25 @@ returns-in_err-_none-clause-too_many g c =
 pub invariant_of-self-2 : goal.invariant_of-self-2
 invariant_of-self-2 g c =
     let slots = sym (ap (λ (s : Slab (Record g.row.T.Denot)). s.slots) c.in_ok-reserve.ensures.rest_kept) in
-    let key : c.insert_reserved-key.result ≡ c.vacant_key-key.result = c.insert_reserved-key.ensures.key ∙ ap (λ (s : Slab (Record g.row.T.Denot)). s.vacant_key) c.in_ok-reserve.ensures.rest_kept ∙ sym c.vacant_key-key.ensures.value in
-    kept_added _ c.reserve.new.self c.insert_reserved-key.new.self c.self.inside.index c.insert.new.self c.vacant_key-key.result c.args.thing c.self.invariant slots refl
+    let key : c.insert_reserved-key.result ≡ c.in_ok-slot.slot = c.insert_reserved-key.ensures.key ∙ ap (λ (s : Slab (Record g.row.T.Denot)). s.vacant_key) c.in_ok-reserve.ensures.rest_kept ∙ sym c.in_ok-slot.ensures.key in
+    kept_added _ c.reserve.new.self c.insert_reserved-key.new.self c.self.inside.index c.insert.new.self c.in_ok-slot.slot c.args.thing c.self.invariant slots refl
     (rw key at c.insert_reserved-key.ensures.was_vacant)
     (rw key at c.insert_reserved-key.ensures.updates)
     c.insert_reserved-key.ensures.len
     c.in_ok-_none.ensures.updates
-    (omega arith)
+    c.in_ok-slot.ensures.low
     (λ h. c.if-len-limit.false (c.len.ensures ∙ ap (λ (xs : List (Option (Record g.row.T.Denot))). count_by is_some xs) slots ∙ h))
 
 pub returns-clause-ok : goal.returns-clause-ok
 returns-clause-ok g c =
     let slots = sym (ap (λ (s : Slab (Record g.row.T.Denot)). s.slots) c.in_ok-reserve.ensures.rest_kept) in
-    let key : c.insert_reserved-key.result ≡ c.vacant_key-key.result = c.insert_reserved-key.ensures.key ∙ ap (λ (s : Slab (Record g.row.T.Denot)). s.vacant_key) c.in_ok-reserve.ensures.rest_kept ∙ sym c.vacant_key-key.ensures.value in
-    rw (← c.self.view_is) (adds _ c.reserve.new.self c.insert_reserved-key.new.self c.self.inside.index c.insert.new.self c.vacant_key-key.result c.args.thing c.self.invariant slots refl
+    let key : c.insert_reserved-key.result ≡ c.in_ok-slot.slot = c.insert_reserved-key.ensures.key ∙ ap (λ (s : Slab (Record g.row.T.Denot)). s.vacant_key) c.in_ok-reserve.ensures.rest_kept ∙ sym c.in_ok-slot.ensures.key in
+    rw (← c.self.view_is) (adds _ c.reserve.new.self c.insert_reserved-key.new.self c.self.inside.index c.insert.new.self c.in_ok-slot.slot c.args.thing c.self.invariant slots refl
     (rw key at c.insert_reserved-key.ensures.was_vacant)
     (rw key at c.insert_reserved-key.ensures.updates)
     c.insert_reserved-key.ensures.len
     c.in_ok-_none.ensures.updates
-    (omega arith)
+    c.in_ok-slot.ensures.low
     (λ h. c.if-len-limit.false (c.len.ensures ∙ ap (λ (xs : List (Option (Record g.row.T.Denot))). count_by is_some xs) slots ∙ h)))
 
 pub returns-clause-too_many : goal.returns-clause-too_many
