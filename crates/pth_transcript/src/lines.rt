@@ -1,6 +1,6 @@
 //! The lines of an input or of a file, one by one.
 
-ghost use Rattle.std.specs.Prelude.{◌≡◌, ◌≤◌, [], ◌++◌, IfOk, codes, length, true, false};
+ghost use Rattle.std.specs.Prelude.{◌≡◌, ◌<◌, ◌≤◌, [], ◌++◌, IfOk, codes, length, true, false};
 ghost use Rattle.std.specs.Io.{ReadsAtMost};
 ghost use Rattle.std.specs.Io.KnownBytes.{IsAtEnd, ReadConsumes};
 ghost use Rattle.pth_streams.specs.Faults.{Counts, CountsRead};
@@ -122,6 +122,7 @@ impl Lines {
             (ahead self.old.unread (of_read self.old.of_file (S.left input.old) (F.left files.old)))
             (ahead self.new.unread (of_read self.old.of_file (S.left input.new) (F.left files.new))) []) }
         ensures over { IfOk result (λ more. more ≡ false → IsAtEnd (of_read self.old.of_file (S.left input.new) (F.left files.new))) }
+        ensures grows { IfOk result (λ more. more ≡ true → length self.old.unread < length self.new.unread) }
         ensures counts { CountsRead (of_read self.old.of_file (S.faults input.old) (F.faults files.old))
             (of_read self.old.of_file (S.faults input.new) (F.faults files.new)) result }
         ensures other { OtherStays self.old.of_file input.old input.new files.old files.new }
@@ -173,7 +174,7 @@ impl Lines {
             (of_read self.old.of_file (S.faults input.new) (F.faults files.new)) result }
         ensures other { OtherStays self.old.of_file input.old input.new files.old files.new }
     {
-        for _ in 0..u64::MAX {
+        'pieces: loop {
             let seen = self.unread();
             if !self.read_more(input, files)? {
                 return Ok(false);
@@ -182,8 +183,6 @@ impl Lines {
                 return Ok(true);
             }
         }
-        // A line of so many bytes fits into no memory.
-        Err(ReadFault::OutOfMemory)
     }
 
     /// Takes the next line, and answers whether there is one. If there is none, nothing is left to read, and what was read behind the last line

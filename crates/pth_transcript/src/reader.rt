@@ -1,6 +1,6 @@
 //! A transcript, read line by line.
 
-ghost use Rattle.std.specs.Prelude.{◌≡◌, ◌+◌, ◌++◌, ◌⊎◌, [], IfOk, IfSome, IfErr, codes, option_map, true, false};
+ghost use Rattle.std.specs.Prelude.{◌≡◌, ◌+◌, ◌<◌, ◌^◌, ◌++◌, ◌⊎◌, [], IfOk, IfSome, IfErr, codes, option_map, true, false};
 ghost use Rattle.pth_streams.specs.Faults.{Counts, CountsRead};
 ghost use Rattle.pth_transcript.specs.Reading.{ComesTo, CountsFault, IsPlainPart, fault_of, part_line};
 ghost use Rattle.pth_transcript.specs.Taking.{IsOver, IsStarted, Opens, OtherStays, Takes, ahead, is_file, of_read};
@@ -135,6 +135,7 @@ impl Reader {
             (ahead self.old.unread (of_read self.old.of_file (S.left input.old) (F.left files.old)))
             (ahead self.new.unread (of_read self.old.of_file (S.left input.new) (F.left files.new))) (part_line part)) }
         ensures lines { IfOk result (λ _. self.new.lines ≡ self.old.lines + 1) }
+        ensures few { self.new.lines < 2 ^ 64 }
         ensures plain { IfOk result IsPlainPart }
         ensures fault { IfErr result (ComesTo self.old.lines) }
         ensures counts { CountsFault (of_read self.old.of_file (S.faults input.old) (F.faults files.old))

@@ -1,9 +1,9 @@
-use Rattle.std.proofs.Common.{◌≡◌, []}
+use Rattle.std.proofs.Common.{◌≡◌, ◌-◌, ◌^◌, length, []}
 use Rattle.pth_transcript.specs.Taking.{IsStarted, OtherStays, Takes, ahead, of_read}
 use Rattle.pth_transcript.proofs.lines.Lines.take_further.Given as goal
 
-abbrev pub invariant-loop : goal.invariant-loop
-invariant-loop g l = record {
+abbrev pub invariant-pieces : goal.invariant-pieces
+invariant-pieces g l = record {
   started : IsStarted l.self.of_file (g.F.Files.started l.files);
   same : l.self.of_file ≡ l.fn.self.of_file;
   takes : Takes (ahead l.fn.self.unread (of_read l.fn.self.of_file (g.S.Source.left l.fn.input) (g.F.Files.left l.fn.files)))
@@ -12,3 +12,6 @@ invariant-loop g l = record {
       ≡ of_read l.fn.self.of_file (g.S.Source.faults l.fn.input) (g.F.Files.faults l.fn.files);
   other : OtherStays l.fn.self.of_file l.fn.input l.input l.fn.files l.files;
 }
+
+abbrev pub decreases-pieces : goal.decreases-pieces
+decreases-pieces g l = 2 ^ 64 - length l.self.unread
