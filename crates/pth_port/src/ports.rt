@@ -1,6 +1,6 @@
 //! Message ports.
 
-ghost use Rattle.std.specs.Prelude.{◌≡◌, ◌≢◌, ◌+◌, ◌<◌, ◌^◌, ℕ, [], true, false, not, nat_le, Some, None, Ok, Err, IsSome, IfSome, IfNone, IfOk, IfErr, OnOk, OnErr, is_some, option_map, option_copied, if◌then◌else◌, ◌&&◌};
+ghost use Rattle.std.specs.Prelude.{◌≡◌, ◌≢◌, ◌+◌, ◌<◌, ◌↔◌, ℕ, IsErr, [], true, false, not, nat_le, Some, None, Ok, Err, IsSome, IfSome, IfNone, IfOk, IfErr, OnOk, OnErr, is_some, option_map, option_copied, if◌then◌else◌, ◌&&◌};
 ghost use Rattle.pth_numbered.specs.Operands.{number, is_zero};
 ghost use Rattle.pth_store.specs.Storing.{AnswersWithMemory};
 ghost use Rattle.pth_port.specs.Mail.{Message, message_limit, messages, messages_of, messages_at, is_live, is_port, is_taken, reply_port, no_mail, no_names, with_port, put_to, got, replied, closed_port, sent, port_added, port_removed, port_create_answer, port_find_answer, port_pending_answer, port_put_answer, port_get_answer, reply_answer, port_destroy_answer};
@@ -13,6 +13,7 @@ use crate::letters::{
 };
 use pth_base::errno::Errno;
 use pth_base::ids::{MsgId, PortId};
+use pth_base::memory::OutOfMemory;
 use pth_base::name::Name;
 use pth_base::refusal::Refusal;
 use std::alloc::Global;
@@ -175,8 +176,7 @@ impl Ports {
 
     // One more message, which is held. EAGAIN where there are as many as there may be.
     fn add_held(&mut self, value: i64, reply: Option<PortId>) -> Result<u64, Refusal>
-        requires few { (mail_of self.old).made < 2 ^ 62 }
-        requires some { IfSome reply (λ p. p.0 ≢ 0) }
+        requires { IfSome reply (λ p. p.0 ≢ 0) }
         ensures answer { NumbersWithMemory
             (if nat_le message_limit (messages (mail_of self.old) (names_of self.old).made)
             then Err Errno.EAGAIN else Ok ((mail_of self.old).made + 1))
@@ -192,7 +192,7 @@ impl Ports {
         if self.letters.len() >= MOST_MESSAGES {
             return Err(Refusal::Fail(Errno::EAGAIN));
         }
-        let n = self.sent + 1;
+        let n = number_after(self.sent)?;
         let letter = Letter {
             value,
             reply,
@@ -340,7 +340,6 @@ impl Ports {
     /// port for its reply, 0 for none. EINVAL where the port is not live, or `reply` is neither 0 nor a live port, EAGAIN where
     /// 65,536 messages are queued or held. Where there is no memory nothing changes.
     pub fn put(&mut self, p: i64, v: i64, reply: i64) -> Result<MsgId, Refusal>
-        requires { (mail_of self.old).made < 2 ^ 62 }
         ensures answer { NumbersWithMemory
             (port_put_answer (mail_of self.old) (names_of self.old).made p reply) (λ m. m.0) result }
         ensures mail { OnOk result
@@ -437,6 +436,14 @@ fn new_port(name: Option<&Name>) -> Port
         name: name.map(|n| n.copy()),
         queue: Queue::new(),
     }
+}
+
+// The number of the message that is put after so many. Want of memory exactly after 2^64 - 1: a number of 64 bits counts no more.
+fn number_after(sent: u64) -> Result<u64, OutOfMemory>
+    ensures number { IfOk result (λ n. n ≡ sent + 1) }
+    ensures memory { IsErr result ↔ (sent ≡ 18446744073709551615) }
+{
+    sent.checked_add(1).ok_or(OutOfMemory)
 }
 
 // The number of a port that an operand names.
