@@ -11,6 +11,11 @@ reads (reading.Fails e) left = Some (Fail e)
 reads (reading.Takes n) left = Some (Bytes (take n left))
 reads reading.Waits left = None
 
+-- the answer is bytes, which take memory
+abbrev pub HandsOut : Option Answer → Type 0
+HandsOut (Some (Bytes bs)) = Unit {0}
+HandsOut _ = ⊥
+
 -- how many bytes it takes
 abbrev pub taken : Reading → ℕ
 taken (reading.Fails e) = 0

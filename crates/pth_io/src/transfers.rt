@@ -3,7 +3,7 @@
 ghost use Rattle.std.specs.Prelude.{◌≡◌, ◌≤◌, ◌<◌, ◌^◌, ◌+◌, length, OnOk, OnErr, IfOk, is_some};
 ghost use Rattle.pth_io.specs.Answered.{answered};
 ghost use Rattle.pth_io.specs.Attempts.{read_answer, read_after, fits, written, write_answer, write_after};
-ghost use Rattle.pth_io.specs.Reading.{reads, taken};
+ghost use Rattle.pth_io.specs.Reading.{reads, taken, HandsOut};
 ghost use Rattle.pth_io.specs.Writing.{AnswersWrite};
 ghost use Rattle.pth_kernel.specs.Kernel.{kernel_of, fd_named, unread, room};
 
@@ -51,12 +51,14 @@ impl Reading {
 }
 
 /// Reads up to `n` bytes of descriptor `f` (`pth_read`): EBADF where it is not open, EINVAL where `n` is not 0 to 65,536, the bytes
-/// that are there, EIO where it has failed, and no bytes at their end or where `n` is 0.
+/// that are there, EIO where it has failed, and no bytes at their end or where `n` is 0. Want of memory comes only in place of bytes:
+/// a refusal is certain, and so is that the call is not yet answered.
 #[tactic(auto, unfolding(crate::specs::Attempts::read_after))]
 pub fn try_read(k: &mut Kernel, f: i64, n: i64) -> Result<Attempt, OutOfMemory>
     ensures answer { IfOk result (λ a. answered a ≡ read_answer (kernel_of k.old) (fd_named f) n) }
     ensures after { OnOk result (kernel_of k.new ≡ read_after (fd_named f) n (kernel_of k.old)) }
     ensures refused { OnErr result (k.new ≡ k.old) }
+    ensures memory { OnErr result (HandsOut (read_answer (kernel_of k.old) (fd_named f) n)) }
 {
     match Reading::of(k, f, n) {
         Reading::Fails(e) => Ok(fails(e)),
