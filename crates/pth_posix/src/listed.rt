@@ -1,6 +1,6 @@
 //! Lists of POSIX calls as a program.
 
-ghost use Rattle.std.specs.Prelude.{◌≡◌, [], ◌∷◌, ◌++◌, ◌+◌, ◌<◌, ◌≤◌, ◌^◌, length, IfOk, OnOk, OnErr, OnSome, IsErr};
+ghost use Rattle.std.specs.Prelude.{◌≡◌, [], ◌∷◌, ◌++◌, ◌+◌, ◌<◌, ◌≤◌, ◌^◌, ◌↔◌, length, IfOk, OnOk, OnErr, OnSome, IsErr};
 ghost use Rattle.std.specs.Option.{option_copied};
 ghost use Rattle.pth_posix.specs.Listed.{call_at, number_told, with_call};
 
@@ -57,6 +57,18 @@ impl Listed {
         }
     }
 
+    // The number of the next body. Want of memory exactly where 4,294,967,295 lists were made: a number of 32 bits counts no more.
+    fn next_body(&self) -> Result<u32, OutOfMemory>
+        ensures number { IfOk result (λ n. n ≡ length self.now) }
+        ensures memory { IsErr result ↔ (length self.now ≡ 4294967295) }
+    {
+        let number = self.lists.len();
+        if number == MOST_LISTS {
+            return Err(OutOfMemory);
+        }
+        Ok(number as u32)
+    }
+
     /// An empty list more, for the next body. There are at most 4,294,967,295 lists.
     pub fn body(&mut self) -> Result<BodyId, OutOfMemory>
         ensures ok { OnOk result (self.new ≡ self.old ++ [] ∷ []) }
@@ -64,13 +76,10 @@ impl Listed {
         ensures err { OnErr result (self.new ≡ self.old) }
         ensures most { length self.old ≡ 4294967295 → IsErr result }
     {
-        let number = self.lists.len();
-        if number == MOST_LISTS {
-            return Err(OutOfMemory);
-        }
+        let number = self.next_body()?;
         let list = Series::new(self.alloc);
         self.lists.push(list)?;
-        Ok(BodyId(number as u32))
+        Ok(BodyId(number))
     }
 
     /// Adds a call at the end of a body's list.
