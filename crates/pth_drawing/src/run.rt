@@ -51,7 +51,7 @@ fn draw_marks<S: Source, F: Files>(
     ensures other { OtherStays reader.old.of_file input.old input.new files.old files.new }
 {
     let mut drawing = Drawing::new(alloc, choice.from, choice.turns);
-    for _line in 0..u64::MAX {
+    'lines: loop {
         let Part::Mark(told) = reader.next(alloc, input, files)? else {
             return Ok(drawing);
         };
@@ -59,8 +59,6 @@ fn draw_marks<S: Source, F: Files>(
             return Err(Fault::OutOfMemory);
         };
     }
-    // No transcript has so many lines.
-    Err(Fault::OutOfMemory)
 }
 
 // Nothing comes behind the line of the ending.

@@ -1,6 +1,6 @@
 //! The picture of a chart, as a text in SVG.
 
-ghost use Rattle.std.specs.Prelude.{◌≡◌, ◌<◌, ◌≤◌, ◌^◌, ◌++◌, All, IfSome, OnOk, flat_map, length, map};
+ghost use Rattle.std.specs.Prelude.{◌≡◌, ◌+◌, ◌*◌, ◌<◌, ◌≤◌, ◌^◌, ◌++◌, All, IfSome, OnOk, flat_map, length, map};
 ghost use Rattle.pth_drawing.specs.Bounds.{IsLaneWithin, IsStretchWithin, IsWithinColumns, most_columns};
 ghost use Rattle.pth_drawing.specs.Charts.{chart_seen, lane_seen};
 ghost use Rattle.pth_drawing.specs.Picture.{bar_line, cross_line, depth_of, end_lines, left_of, opening_line, thickness_of};
@@ -13,9 +13,6 @@ use crate::piece::add_pieces;
 use pth_base::memory::OutOfMemory;
 use pth_text::text::Text;
 
-// How many lanes a picture has at most.
-const MOST_LANES: u64 = 1 << 32;
-
 // The left edge of a column.
 fn left_of(column: u64) -> u64
     requires { column < most_columns }
@@ -24,18 +21,24 @@ fn left_of(column: u64) -> u64
     60 + 12 * column
 }
 
+// The height of a picture with these lanes.
+fn height_of(lanes: &[Lane]) -> u64
+    ensures { result ≡ 28 + 20 * length lanes.now }
+{
+    28 + 20 * lanes.len() as u64
+}
+
 // Adds the line that opens a picture.
 #[tactic(auto, unfolding(crate::specs::Picture::opening_line))]
-fn add_opening(columns: u64, lanes: u64, out: &mut Text) -> Result<(), OutOfMemory>
-    requires columns { columns ≤ most_columns }
-    requires lanes { lanes ≤ 2 ^ 32 }
-    ensures { OnOk result (out.new ≡ out.old ++ opening_line columns lanes) }
+fn add_opening(columns: u64, lanes: &[Lane], out: &mut Text) -> Result<(), OutOfMemory>
+    requires { columns ≤ most_columns }
+    ensures { OnOk result (out.new ≡ out.old ++ opening_line columns (length lanes.now)) }
 {
     add_pieces(
         &[
             Plain(b"<svg xmlns=\"http://www.w3.org/2000/svg\""),
             Attribute(b"width", 72 + 12 * columns),
-            Attribute(b"height", 28 + 20 * lanes),
+            Attribute(b"height", height_of(lanes)),
             Plain(b">\n"),
         ],
         out,
@@ -81,7 +84,7 @@ fn add_moment(moment: &Moment, out: &mut Text) -> Result<(), OutOfMemory>
 // Adds the line of a lane's name.
 #[tactic(auto, unfolding(crate::specs::Picture::name_line))]
 fn add_name(top: u64, thread: u64, out: &mut Text) -> Result<(), OutOfMemory>
-    requires { top < 2 ^ 40 }
+    requires { top < 2 ^ 63 }
     ensures { OnOk result (out.new ≡ out.old ++ name_line top thread) }
 {
     add_pieces(
@@ -131,7 +134,7 @@ fn thickness_of(shown: Shown) -> u64
 // Adds the line of a stretch.
 #[tactic(auto, unfolding(crate::specs::Picture::stretch_line))]
 fn add_stretch(top: u64, stretch: &Stretch, out: &mut Text) -> Result<(), OutOfMemory>
-    requires top { top < 2 ^ 40 }
+    requires top { top < 2 ^ 63 }
     requires within { IsStretchWithin most_columns stretch.now }
     ensures { OnOk result (out.new ≡ out.old ++ stretch_line top stretch.now) }
 {
@@ -153,7 +156,7 @@ fn add_stretch(top: u64, stretch: &Stretch, out: &mut Text) -> Result<(), OutOfM
 // Adds the line of a cross.
 #[tactic(auto, unfolding(crate::specs::Picture::cross_line))]
 fn add_cross(top: u64, column: u64, out: &mut Text) -> Result<(), OutOfMemory>
-    requires top { top < 2 ^ 40 }
+    requires top { top < 2 ^ 63 }
     requires within { column < most_columns }
     ensures { OnOk result (out.new ≡ out.old ++ cross_line top column) }
 {
@@ -172,7 +175,7 @@ fn add_cross(top: u64, column: u64, out: &mut Text) -> Result<(), OutOfMemory>
 // Adds the line of a bar.
 #[tactic(auto, unfolding(crate::specs::Picture::bar_line))]
 fn add_bar(top: u64, column: u64, out: &mut Text) -> Result<(), OutOfMemory>
-    requires top { top < 2 ^ 40 }
+    requires top { top < 2 ^ 63 }
     requires within { column < most_columns }
     ensures { OnOk result (out.new ≡ out.old ++ bar_line top column) }
 {
@@ -192,7 +195,7 @@ fn add_bar(top: u64, column: u64, out: &mut Text) -> Result<(), OutOfMemory>
 
 // Adds the lines of stretches.
 fn add_stretches(top: u64, stretches: &[Stretch], out: &mut Text) -> Result<(), OutOfMemory>
-    requires top { top < 2 ^ 40 }
+    requires top { top < 2 ^ 63 }
     requires within { All (IsStretchWithin most_columns) stretches.now }
     ensures { OnOk result (out.new ≡ out.old ++ flat_map (stretch_line top) stretches.now) }
 {
@@ -204,7 +207,7 @@ fn add_stretches(top: u64, stretches: &[Stretch], out: &mut Text) -> Result<(), 
 
 // Adds the lines of crosses.
 fn add_crosses(top: u64, columns: &[u64], out: &mut Text) -> Result<(), OutOfMemory>
-    requires top { top < 2 ^ 40 }
+    requires top { top < 2 ^ 63 }
     requires within { All (λ column. column < most_columns) columns.now }
     ensures { OnOk result (out.new ≡ out.old ++ flat_map (cross_line top) columns.now) }
 {
@@ -216,7 +219,7 @@ fn add_crosses(top: u64, columns: &[u64], out: &mut Text) -> Result<(), OutOfMem
 
 // Adds the line of the bar, if there is one.
 fn add_end(top: u64, ended: Option<u64>, out: &mut Text) -> Result<(), OutOfMemory>
-    requires top { top < 2 ^ 40 }
+    requires top { top < 2 ^ 63 }
     requires within { IfSome ended (λ column. column < most_columns) }
     ensures { OnOk result (out.new ≡ out.old ++ end_lines top ended) }
 {
@@ -229,7 +232,7 @@ fn add_end(top: u64, ended: Option<u64>, out: &mut Text) -> Result<(), OutOfMemo
 // Adds the lines of a lane.
 #[tactic(auto, unfolding(crate::specs::Picture::lane_lines))]
 fn add_lane(top: u64, lane: &Lane, out: &mut Text) -> Result<(), OutOfMemory>
-    requires top { top < 2 ^ 40 }
+    requires top { top < 2 ^ 63 }
     requires within { IsLaneWithin most_columns (lane_seen lane.now) }
     ensures { OnOk result (out.new ≡ out.old ++ lane_lines top (lane_seen lane.now)) }
 {
@@ -241,8 +244,7 @@ fn add_lane(top: u64, lane: &Lane, out: &mut Text) -> Result<(), OutOfMemory>
 
 // Adds the lines of lanes, each below the one before it.
 fn add_lanes(lanes: &[Lane], out: &mut Text) -> Result<(), OutOfMemory>
-    requires few { length lanes.now ≤ 2 ^ 32 }
-    requires within { All (λ lane. IsLaneWithin most_columns (lane_seen lane)) lanes.now }
+    requires { All (λ lane. IsLaneWithin most_columns (lane_seen lane)) lanes.now }
     ensures { OnOk result (out.new ≡ out.old ++ lanes_from 20 (map lane_seen lanes.now)) }
 {
     let mut top = 20;
@@ -264,17 +266,13 @@ fn add_moments(moments: &[Moment], out: &mut Text) -> Result<(), OutOfMemory>
     Ok(())
 }
 
-/// Adds the picture of a chart. More than 2^32 lanes are taken as want of memory.
+/// Adds the picture of a chart.
 #[tactic(auto, unfolding(crate::specs::Picture::picture_of))]
 pub fn add_picture(chart: &Chart, out: &mut Text) -> Result<(), OutOfMemory>
     requires { IsWithinColumns (chart_seen chart.now) }
     ensures { OnOk result (out.new ≡ out.old ++ picture_of (chart_seen chart.now)) }
 {
-    let lanes = chart.lanes.len() as u64;
-    if lanes > MOST_LANES {
-        return Err(OutOfMemory);
-    }
-    add_opening(chart.columns, lanes, out)?;
+    add_opening(chart.columns, &chart.lanes, out)?;
     add_style(out)?;
     add_moments(&chart.moments, out)?;
     add_lanes(&chart.lanes, out)?;

@@ -6,8 +6,8 @@ use Rattle.pth_drawing.proofs.Results.{passed_on}
 use Rattle.pth_drawing.specs.Draw.{StopsAt}
 use Rattle.pth_drawing.proofs.run.draw_marks.Goals as goal
 
-pub loop-line-init : goal.loop-line-init
-loop-line-init g c = record {
+pub lines-init : goal.lines-init
+lines-init g c = record {
   started = c.requires.started;
   same = refl;
   along = begins _ _ _ _ _ _ c.requires.fresh.0 c.requires.fresh.1 c.new-drawing.ensures;
@@ -18,20 +18,20 @@ loop-line-init g c = record {
 pub returns-in_err-told-clause-fault : goal.returns-in_err-told-clause-fault
 returns-in_err-told-clause-fault g c =
     passed_on (StopsAt (of_read c.args.reader.now.of_file (g.S.Source.left c.args.input.now) (g.F.Files.left c.args.files.now)))
-    c.from_residual.result c.in_err-told.field-0.0 c.from_residual.ensures.1 (stops _ _ _ _ _ _ _ c.loop-line.invariant.along c.in_err-told.ensures.fault)
+    c.from_residual.result c.in_err-told.field-0.0 c.from_residual.ensures.1 (stops _ _ _ _ _ _ _ c.lines.invariant.along c.in_err-told.ensures.fault)
 
 pub returns-in_default-clause-drawn : goal.returns-in_default-clause-drawn
 returns-in_default-clause-drawn g c =
-    ends _ _ _ _ _ _ _ _ _ _ c.loop-line.invariant.along
-    (taken_of _ _ c.loop-line.invariant.same _ _ _ _ _ _ _ c.in_ok-told.ensures.takes) c.in_default.is c.in_ok-told.ensures.lines
+    ends _ _ _ _ _ _ _ _ _ _ c.lines.invariant.along
+    (taken_of _ _ c.lines.invariant.same _ _ _ _ _ _ _ c.in_ok-told.ensures.takes) c.in_default.is c.in_ok-told.ensures.lines
 
-pub loop-line-preserved : goal.loop-line-preserved
-loop-line-preserved g c = record {
+pub lines-preserved : goal.lines-preserved
+lines-preserved g c = record {
   started = c.in_ok-told.ensures.started;
-  same = c.in_ok-told.ensures.same ∙ c.loop-line.invariant.same;
-  along = goes_on _ _ _ _ _ _ _ _ _ _ _ c.loop-line.invariant.along
-      (taken_of _ _ c.loop-line.invariant.same _ _ _ _ _ _ _ c.in_ok-told.ensures.takes) c.in-Mark.is c.in_ok-told.ensures.plain c.in_ok-told.ensures.lines
+  same = c.in_ok-told.ensures.same ∙ c.lines.invariant.same;
+  along = goes_on _ _ _ _ _ _ _ _ _ _ _ c.lines.invariant.along
+      (taken_of _ _ c.lines.invariant.same _ _ _ _ _ _ _ c.in_ok-told.ensures.takes) c.in-Mark.is c.in_ok-told.ensures.plain c.in_ok-told.ensures.lines
       (λ marks h. c.in-Ok.ensures _ _ marks h);
-  stood = stood_of _ _ c.loop-line.invariant.same _ _ _ _ _ _ c.in_ok-told.ensures.counts c.loop-line.invariant.stood;
-  other = others_of _ _ c.loop-line.invariant.same _ _ _ _ _ _ c.loop-line.invariant.other c.in_ok-told.ensures.other;
+  stood = stood_of _ _ c.lines.invariant.same _ _ _ _ _ _ c.in_ok-told.ensures.counts c.lines.invariant.stood;
+  other = others_of _ _ c.lines.invariant.same _ _ _ _ _ _ c.lines.invariant.other c.in_ok-told.ensures.other;
 }

@@ -1,10 +1,10 @@
-use Rattle.std.proofs.Common.{◌≡◌, []}
+use Rattle.std.proofs.Common.{◌≡◌, ◌-◌, ◌^◌, []}
 use Rattle.pth_transcript.specs.Taking.{IsStarted, OtherStays, ahead, of_read}
 use Rattle.pth_drawing.specs.Taken.{IsAlong}
 use Rattle.pth_drawing.proofs.run.draw_marks.Given as goal
 
-abbrev pub invariant-loop-line : goal.invariant-loop-line
-invariant-loop-line g l = record {
+abbrev pub invariant-lines : goal.invariant-lines
+invariant-lines g l = record {
   started : IsStarted l.reader.of_file (g.F.Files.started l.files);
   same : l.reader.of_file ≡ l.initial.reader.of_file;
   along : IsAlong l.drawing l.choice.from l.choice.turns
@@ -15,3 +15,6 @@ invariant-loop-line g l = record {
       ≡ of_read l.initial.reader.of_file (g.S.Source.faults l.initial.input) (g.F.Files.faults l.initial.files);
   other : OtherStays l.initial.reader.of_file l.initial.input l.input l.initial.files l.files;
 }
+
+abbrev pub decreases-lines : goal.decreases-lines
+decreases-lines g l = 2 ^ 64 - l.reader.lines
