@@ -6,6 +6,7 @@ ghost use Rattle.pth_base.specs.declared.call.Call.TheVariants.{Abort, Cancel};
 ghost use Rattle.pth_base.specs.declared.facility.Facility.TheVariants as facility;
 ghost use Rattle.pth_base.specs.declared.mark.Mark.TheVariants.{Answered};
 ghost use Rattle.pth_calls.specs.Plain.{is_plain};
+ghost use Rattle.pth_end.specs.Whole.{FullWhole, IsUnblocked};
 ghost use Rattle.pth_model.specs.Calls.{begun};
 ghost use Rattle.pth_model.specs.Cancellation.{abort as abort_row, aborts, cancel as cancel_row, cancel_state as cancel_state_row, ends_or_asks, is_asynchronous as is_asynchronous_state};
 ghost use Rattle.pth_model.specs.Ending.{other_than};
@@ -181,6 +182,7 @@ pub fn cancel<P: Program>(
     requires call { call.now ≡ Cancel n }
     ensures goes { Goes (StandsFor w.old) (begun P.functions t.0 call.now) w.new marks.old marks.new result }
     ensures frame { IfOk result (λ n. Frame w.old w.new no_numbers (runs_after t.0 n) (yields_after n)) }
+    ensures keeps { OnOk result (IsUnblocked w.old t.0 → FullWhole w.old → FullWhole w.new) }
 {
     let (other, state) = match to_cancel(w, t, n) {
         Ok(it) => it,
@@ -206,6 +208,7 @@ pub fn abort<P: Program>(
     requires call { call.now ≡ Abort n }
     ensures goes { Goes (StandsFor w.old) (begun P.functions t.0 call.now) w.new marks.old marks.new result }
     ensures frame { IfOk result (λ n. Frame w.old w.new no_numbers (runs_after t.0 n) (yields_after n)) }
+    ensures keeps { OnOk result (IsUnblocked w.old t.0 → FullWhole w.old → FullWhole w.new) }
 {
     let (other, dead) = match to_abort(w, t, n) {
         Ok(it) => it,

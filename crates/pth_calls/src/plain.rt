@@ -3,6 +3,7 @@
 ghost use Rattle.std.specs.Prelude.{◌≡◌, true, false, Some, IfOk, OnOk};
 ghost use Rattle.pth_base.specs.declared.mark.Mark.TheVariants.{Answered};
 ghost use Rattle.pth_calls.specs.Plain.{is_plain};
+ghost use Rattle.pth_end.specs.Whole.{FullWhole, IsUnblocked};
 ghost use Rattle.pth_model.specs.Calls.{begun};
 ghost use Rattle.pth_model.specs.Rows.{row_of};
 ghost use Rattle.pth_model.specs.State.{State};
@@ -82,6 +83,7 @@ pub fn begin_plain<P: Program>(
     ensures next { IfOk result (λ a. (s : State P P.State P.Shared) → StandsFor w.old s → next.Done a ≡ (begun P.functions t.0 call.now s).next) }
     ensures goes { LedTo (StandsFor w.old) (λ (s : State P P.State P.Shared). (begun P.functions t.0 call.now s).told) w.new marks.old marks.new result }
     ensures frame { OnOk result (Frame w.old w.new one_of_each (Some t.0) false) }
+    ensures keeps { OnOk result (IsUnblocked w.old t.0 → FullWhole w.old → FullWhole w.new) }
 {
     let answer = answer(w, t, call)?;
     answer_call(t, call, answer, marks)

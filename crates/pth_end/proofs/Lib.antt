@@ -14,3 +14,6 @@ pub mod Cleaning
 pub mod Destructing
 pub mod Canceling
 pub mod Sweeping
+pub mod Callers
+pub mod Wholes
+pub mod Keeping

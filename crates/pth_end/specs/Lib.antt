@@ -1,3 +1,4 @@
 pub mod Handling
 pub mod Saying
 pub mod Giving
+pub mod Whole

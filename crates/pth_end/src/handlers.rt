@@ -2,6 +2,7 @@
 
 ghost use Rattle.std.specs.Prelude.{◌-◌, ◌≤◌, OnOk};
 ghost use Rattle.pth_end.specs.Handling.{IsHandled};
+ghost use Rattle.pth_end.specs.Whole.{FullWhole};
 ghost use Rattle.pth_model.specs.Acts.{acts_from, handled as handled_by, runs_handler};
 ghost use Rattle.pth_world.specs.Leading.{LedTo};
 ghost use Rattle.pth_world.specs.Shows.{StandsFor};
@@ -51,6 +52,7 @@ pub fn run_handler<P: Program>(
     requires alive { IsAlive w.old.threads t.0 }
     ensures goes { LedTo (StandsFor w.old) (handled_by P.functions t.0 h arg) w.new marks.old marks.new result }
     ensures handled { OnOk result (IsHandled w.old w.new) }
+    ensures keeps { OnOk result (FullWhole w.old → FullWhole w.new) }
 {
     make_acts(w, t, h, arg, 0, marks)
 }

@@ -18,5 +18,6 @@ pub mod destructors;
 pub mod ending;
 pub mod giving;
 pub mod handlers;
+pub mod laws;
 pub mod saying;
 pub mod undoing;

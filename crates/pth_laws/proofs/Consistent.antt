@@ -3,7 +3,6 @@
 use Rattle.std.proofs.Common.{◌≡◌, ℕ, suc, true, ℤ, Option, Some, None, refl, sym, subst}
 use Rattle.pth_base.specs.Program.{Functions}
 use Rattle.pth_base.specs.declared.call.Call.{Call}
-use Rattle.pth_base.specs.declared.call.Call.TheVariants as call
 use Rattle.pth_base.specs.declared.ids.HandlerId.{HandlerId}
 use Rattle.pth_cond.specs.Barriers.{BarrierTable}
 use Rattle.pth_cond.specs.Conditions.{ConditionTable}
@@ -23,11 +22,10 @@ use Rattle.pth_model.specs.Pass.{moment, pass}
 use Rattle.pth_model.specs.Resources.{Store}
 use Rattle.pth_model.specs.Run.{run}
 use Rattle.pth_model.specs.State.{State, Given, Turn, start}
-use Rattle.pth_model.specs.Transition.{controlled}
-use Rattle.pth_laws.specs.Consistent.{AllAwaitOwn, AreWaitsConsistent, AwaitsOwn, IsCaller}
+use Rattle.pth_laws.specs.Consistent.{AreWaitsConsistent, AwaitsOwn, IsCaller}
 use Rattle.pth_laws.proofs.Going.{IsSound}
 use Rattle.pth_laws.proofs.NoNotices.{is_notice}
-use Rattle.pth_laws.proofs.Along.{Kept, KeptAlong, KeptBySteps, acts_keep, begun_keeps, ending_keeps, gone_on_keeps, kept_by_steps, moves_keeps, pass_keeps, closes_keeps, run_keeps}
+use Rattle.pth_laws.proofs.Along.{KeptAlong, KeptBySteps, acts_keep, begun_keeps, ending_keeps, gone_on_keeps, kept_by_steps, moves_keeps, pass_keeps, closes_keeps, run_keeps}
 use Rattle.pth_laws.proofs.Waiting as waiting
 use Rattle.pth_laws.proofs.HaveArrived as arrived
 use Rattle.pth_laws.proofs.Arrivals as arrivals

@@ -9,7 +9,7 @@ use Rattle.pth_base.specs.Program.{Functions}
 use Rattle.pth_base.proofs.Chains.{stands_or_not}
 use Rattle.pth_base.proofs.Tables.{put_other, not_same, same_means, same_self}
 use Rattle.pth_lock.specs.Objects.{object_named}
-use Rattle.pth_cond.specs.Conditions.{ConditionTable, has_seat, seat_entered, seat_left, all_seats_left}
+use Rattle.pth_cond.specs.Conditions.{ConditionTable, seat_entered, seat_left, all_seats_left}
 use Rattle.pth_numbered.specs.Operands.{number}
 use Rattle.pth_ring.specs.declared.event.Event.{Event}
 use Rattle.pth_ring.specs.Rings.{Events, has_claim, is_event, is_claimed, with_claim, with_event, ring_awaited, awaited, claimed}

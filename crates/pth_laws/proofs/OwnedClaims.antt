@@ -1,5 +1,5 @@
 -- Each claim on a ring is that of a thread that lives, for the event that the call was given which blocks it.
-use Rattle.std.proofs.Common.{◌≡◌, ◌≢◌, ℕ, ◌+◌, ◌==◌, Bool, true, false, if◌then◌else◌, ℤ, ◌⊎◌, inl, inr, Option, Some, None, is_some, option_map, refl, sym, ◌∙◌, ap, subst}
+use Rattle.std.proofs.Common.{◌≡◌, ◌≢◌, ℕ, ◌+◌, true, false, ℤ, inl, inr, Option, Some, None, is_some, option_map, refl, sym, ◌∙◌, ap, subst}
 use Rattle.std.proofs.lemmas.Bool.{true≢false}
 use Rattle.std.proofs.lemmas.Option.{none-some}
 use Rattle.pth_base.specs.Program.{Functions}
@@ -8,8 +8,8 @@ use Rattle.pth_base.specs.declared.call.Call.{Call}
 use Rattle.pth_base.specs.declared.call.Call.TheVariants as call
 use Rattle.pth_base.specs.declared.thread.ThreadState.TheVariants as state
 use Rattle.pth_base.proofs.Tables.{put_by, put_other}
-use Rattle.pth_cond.specs.Barriers.{BarrierTable, barrier_reached}
-use Rattle.pth_cond.specs.Conditions.{ConditionTable, seat_entered}
+use Rattle.pth_cond.specs.Barriers.{barrier_reached}
+use Rattle.pth_cond.specs.Conditions.{seat_entered}
 use Rattle.pth_ring.specs.Rings.{Events}
 use Rattle.pth_threads.specs.Threads.{changed}
 use Rattle.pth_threads.specs.declared.entry.Change as change_of_record
@@ -24,9 +24,9 @@ use Rattle.pth_model.specs.Awaits.{is_retaking}
 use Rattle.pth_model.specs.Conditions.{seat_of}
 use Rattle.pth_model.specs.State.{State, Given, start}
 use Rattle.pth_model.specs.Transition.{controlled}
-use Rattle.pth_model.specs.Changes.{sets, goes_on, is_blocked_by, makes, forgets, with_conditions, with_barriers, blocked_in, blocked_of}
+use Rattle.pth_model.specs.Changes.{sets, is_blocked_by, makes, forgets, with_conditions, with_barriers, blocked_in, blocked_of}
 use Rattle.pth_model.specs.Living.{lives}
-use Rattle.pth_model.specs.RingWaits.{claimant, claims, extra_ring, ring_given, stops_waiting}
+use Rattle.pth_model.specs.RingWaits.{claimant, claims, ring_given, stops_waiting}
 use Rattle.pth_model.specs.ThreadControl.{values_for, or_first}
 use Rattle.pth_model.specs.LibraryControl.{vanish_all_but}
 use Rattle.pth_model.specs.Calls.{blocks}

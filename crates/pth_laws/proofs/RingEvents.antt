@@ -24,7 +24,7 @@ use Rattle.pth_model.specs.Run.{run}
 use Rattle.pth_laws.specs.Rings.{AreRingsCircles, AreRingsHeld}
 use Rattle.pth_laws.proofs.Along.{KeptAlong, Arrangement, Alone, Chained, Joined, Isolated, Freed, RingFreed, arranged, MayArrange, run_keeps}
 use Rattle.pth_laws.proofs.Circles.{AreCircles, apart, begins, free_event, mates}
-use Rattle.pth_laws.proofs.Claimed.{Fits, FitsIn, each_same, fits_kept, fits_start, one_same, some_mapped, stands}
+use Rattle.pth_laws.proofs.Claimed.{FitsIn, each_same, fits_kept, fits_start, one_same, some_mapped, stands}
 
 abbrev pub AreEvents : Events → Type 0
 AreEvents x = (e g : ℕ) → StandsIn g (x.rings e) → is_event x g ≡ true

@@ -9,9 +9,8 @@ use Rattle.pth_base.specs.declared.call.Call.TheVariants as call
 use Rattle.pth_base.specs.declared.thread.ThreadState.TheVariants as state
 use Rattle.pth_base.proofs.Tables.{not_same, same_means, same_fails, put_by, put_other}
 use Rattle.pth_lock.specs.Objects.{object_named}
-use Rattle.pth_cond.specs.declared.seats.Seat.TheVariants.{Await}
 use Rattle.pth_cond.specs.Barriers.{barrier_reached}
-use Rattle.pth_cond.specs.Conditions.{ConditionTable, has_seat, seat_entered, seat_left}
+use Rattle.pth_cond.specs.Conditions.{ConditionTable, seat_entered, seat_left}
 use Rattle.pth_numbered.specs.Operands.{number}
 use Rattle.pth_ring.specs.Rings.{claimed}
 use Rattle.pth_threads.specs.Threads.{changed}

@@ -1,8 +1,7 @@
 -- A call that blocks its thread as it begins changes nothing of threads.
-use Rattle.std.proofs.Common.{◌≡◌, ℕ, ◌==◌, ◌&&◌, ◌||◌, not, Bool, true, false, ℤ, Option, Some, None, is_none, refl, sym, ◌∙◌, Result, Ok, Err}
+use Rattle.std.proofs.Common.{◌≡◌, ℕ, ◌||◌, not, Bool, true, false, ℤ, Option, Some, None, refl, sym, ◌∙◌, Result, Ok, Err}
 use Rattle.std.proofs.lemmas.Bool.{true≢false}
 use Rattle.pth_base.specs.Program.{Functions}
-use Rattle.pth_base.specs.declared.answer.Answer.TheVariants as answer
 use Rattle.pth_base.specs.declared.call.Call.{Call}
 use Rattle.pth_base.specs.declared.call.Call.TheVariants as call
 use Rattle.pth_base.specs.declared.errno.Errno.{Errno}
@@ -16,7 +15,7 @@ use Rattle.pth_numbered.specs.Operands.{number, ◌is◌}
 use Rattle.pth_ring.specs.Rings.{make_answer, chain_answer, alone, chained}
 use Rattle.pth_threads.specs.Attributes.{set_answer}
 use Rattle.pth_model.specs.declared.verdict.Verdict.{Verdict}
-use Rattle.pth_model.specs.declared.verdict.Verdict.TheVariants.{Says, Yields, Ends, Kills}
+use Rattle.pth_model.specs.declared.verdict.Verdict.TheVariants.{Yields, Ends, Kills}
 use Rattle.pth_model.specs.AttributeHandling.{object}
 use Rattle.pth_model.specs.Cancellation.{canceled_value, is_to_cancel}
 use Rattle.pth_model.specs.Changes.{entry_of, or_nobody, with_events}

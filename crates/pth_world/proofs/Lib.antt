@@ -12,6 +12,7 @@ pub mod Places
 pub mod Sound
 pub mod Views
 pub mod Wholes
+pub mod Standing
 pub mod Starts
 pub mod Moves
 pub mod Runnable

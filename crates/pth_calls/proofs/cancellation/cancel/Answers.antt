@@ -11,6 +11,8 @@ use Rattle.pth_world.proofs.Frames.{frame_as, still_frame}
 use Rattle.pth_end.proofs.Framing.{done_frame, quiet_goes, refused_goes}
 use Rattle.pth_calls.proofs.Framing.{runs_if}
 use Rattle.pth_world.specs.Numbering.{no_numbers}
+use Rattle.pth_world.specs.Frame.{runs_after, yields_after}
+use Rattle.pth_end.proofs.Keeping.{begun_goes_whole}
 use Rattle.pth_calls.proofs.cancellation.cancel.Goals as goal
 
 pub returns-in-Err-clause-goes : goal.returns-in-Err-clause-goes
@@ -54,3 +56,11 @@ pub returns-clause-frame : goal.returns-clause-frame
 returns-clause-frame g c =
     done_frame c.args.w.now c.end_or_ask.new.w c.args.t.0 c.done-2.result _ c.done-2.ensures.next
     (frame_as no_numbers no_numbers c.args.w.now c.end_or_ask.new.w _ _ (λ k. omega arith) (runs_if _ c.args.t.0 c.in-Ok.it.0.0 c.args.w.now.scheduler.running c.requires.runs c.in-Ok.ensures.other) c.in_ok-end_or_ask.ensures.frame)
+
+pub returns-in-Err-clause-keeps : goal.returns-in-Err-clause-keeps
+returns-in-Err-clause-keeps g c =
+    begun_goes_whole g.P.Program.functions c.args.w.now c.args.w.now c.args.t.0 c.requires.whole c.requires.runs c.args.call.now no_numbers (runs_after c.args.t.0) yields_after _ _ c.done.result (returns-in-Err-clause-frame g c) (returns-in-Err-clause-goes g c)
+
+pub returns-clause-keeps : goal.returns-clause-keeps
+returns-clause-keeps g c =
+    begun_goes_whole g.P.Program.functions c.args.w.now c.end_or_ask.new.w c.args.t.0 c.requires.whole c.requires.runs c.args.call.now no_numbers (runs_after c.args.t.0) yields_after _ _ c.done-2.result (returns-clause-frame g c) (returns-clause-goes g c)

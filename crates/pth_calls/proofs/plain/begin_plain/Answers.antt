@@ -3,6 +3,7 @@ use Rattle.std.proofs.lemmas.Result.{IfOk-weaker, err_from_is_err_and, on_ok_wea
 use Rattle.pth_base.proofs.Cuts.{cut_none}
 use Rattle.pth_model.specs.declared.next.Next.TheVariants.{Done}
 use Rattle.pth_calls.proofs.Plains.{begun_answered, answered_leads}
+use Rattle.pth_end.proofs.Keeping.{begun_leads}
 use Rattle.pth_calls.proofs.plain.begin_plain.Goals as goal
 
 pub returns-clause-next : goal.returns-clause-next
@@ -26,3 +27,7 @@ returns-clause-goes g c =
           (answered_leads p s c.args.t.0 c.args.w.now c.answer.new.w call a _ _ st c.in_ok-answer.ensures.told told)) c.answer_call.ensures.ok;
       cut = on_err_weaker c.answer_call.result (λ same s st. cut_none _ _ _ same) c.answer_call.ensures.err;
     }
+
+pub returns-clause-keeps : goal.returns-clause-keeps
+returns-clause-keeps g c =
+    begun_leads g.P.Program.functions c.args.w.now c.answer.new.w c.args.t.0 c.requires.whole c.requires.runs c.args.call.now _ _ c.answer_call.result (on_ok_weaker c.answer_call.result (λ told. c.in_ok-answer.ensures.frame.whole) c.answer_call.ensures.ok) (returns-clause-goes g c)

@@ -9,6 +9,10 @@ use Rattle.pth_end.proofs.Chains.{cut_one, cut_second}
 use Rattle.pth_end.proofs.Ends.{dies_leads, end_frame, end_leads, cut_cleaning, cut_giving, cut_later, cut_undone, cut_waiting, leaving}
 use Rattle.pth_end.proofs.WaitUndone.{alive_by}
 use Rattle.pth_end.proofs.Handled.{handled_then, if_answered}
+use Rattle.pth_laws.proofs.Consistent.{consistent_ended}
+use Rattle.pth_model.specs.Ending.{ending}
+use Rattle.pth_world.specs.StateOf.{state_of}
+use Rattle.pth_end.proofs.Wholes.{led_whole}
 use Rattle.pth_end.proofs.ending.end_thread.Goals as goal
 
 pub run_cleanups-requires-clause-alive : goal.run_cleanups-requires-clause-alive
@@ -96,3 +100,10 @@ returns-clause-frame g c =
     let cleaned = handled_then a _ _ c.in_ok-run_cleanups.ensures.handled c.in_ok-run_destructors.ensures.handled in
     let handled = handled_then a _ _ cleaned c.in_ok-give_all.ensures.handled in
     if_answered c.push.result (end_frame c.args.w.now a c.args.t.0 c.give_all.new.w c.forget.new.self c.leave.new.self undone handled c.forget.ensures.keeps c.leave.ensures.moves)
+
+pub returns-clause-keeps : goal.returns-clause-keeps
+returns-clause-keeps g c =
+    let f = g.P.Program.functions in
+    let w = c.args.w.now in
+    led_whole w c.leave.new.self (ending f c.args.t.0 c.args.value) _ _ c.push.result c.requires.whole (on_ok_weaker c.push.result (λ frame. frame.whole) (returns-clause-frame g c)) (returns-clause-goes g c)
+    (λ waits. consistent_ended f c.args.t.0 c.args.value (state_of w) waits)

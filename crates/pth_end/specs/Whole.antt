@@ -1,0 +1,19 @@
+-- What holds of every world between two calls.
+use Rattle.std.specs.Prelude.{◌≡◌, ℕ, None}
+use Rattle.pth_model.specs.Changes.{blocked_of}
+use Rattle.pth_model.specs.State.{Control}
+use Rattle.pth_laws.specs.Consistent.{AreWaitsConsistent}
+use Rattle.pth_world.specs.Shows.{Shows}
+use Rattle.pth_world.specs.StateOf.{state_of}
+use Rattle.pth_world.specs.Whole.{Whole}
+use Rattle.pth_world.specs.World.{WorldOf}
+
+-- The threads, where they stand and what they have stored fit each other; and in each state for which the world stands so do the calls
+-- that block threads, and what these made: claims on rings, seats at conditions and arrivals at barriers (`consistent_in`).
+pub record FullWhole {P S H : Type 0} (w : WorldOf P S H) : Type 0 where
+  pub formed : Whole w
+  pub waits : AreWaitsConsistent (state_of w)
+
+-- no call blocks thread t: it may begin one
+abbrev pub IsUnblocked : {P S H : Type 0} → WorldOf P S H → ℕ → Type 0
+IsUnblocked w t = (k : Control _ _ _) → Shows w k → blocked_of k t ≡ None
