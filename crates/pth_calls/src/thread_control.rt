@@ -21,7 +21,7 @@ ghost use Rattle.pth_world.specs.Frame.{Frame, runs_after, yields_after};
 ghost use Rattle.pth_world.specs.Leading.{Goes, Changed, IsAnswered, IsQuiet};
 ghost use Rattle.pth_world.specs.Numbering.{HasNumbers, no_numbers, Thread, one_of};
 ghost use Rattle.pth_world.specs.Shows.{StandsFor};
-ghost use Rattle.pth_world.specs.Sound.{IsPrio, IsCancel};
+ghost use Rattle.pth_world.specs.Sound.{IsPrio};
 ghost use Rattle.pth_world.specs.Whole.{Whole};
 
 use pth_base::answer::Answer;
@@ -67,7 +67,6 @@ fn values_for<P: Program>(w: &World<P>, t: Tid, attr: i64) -> Result<NewThread, 
     requires runs { w.now.scheduler.running ≡ Some t.0 }
     ensures values { (s : State P P.State P.Shared) → StandsFor w.now s → result ≡ values_given s.control t.0 attr }
     ensures prio { IfOk result (λ of. IsPrio of.prio) }
-    ensures cancel { IfOk result (λ of. IsCancel of.cancel) }
 {
     if attr != 0 {
         return w.attrs().values(attr, w.threads());

@@ -128,9 +128,7 @@ fn print_world(rt: &(impl Print + AllocGlobal), world: &World<Errand>) -> io::Re
 }
 
 /// Prints how often another thread was dispatched since a thread became ready, and how often that may be; nothing if it is not ready.
-fn print_wait(rt: &(impl Print + AllocGlobal), machine: &Machine<Errand>, t: Tid) -> io::Result<()>
-    requires few { machine.now.turn.steps ≤ MOST_STEPS }
-{
+fn print_wait(rt: &(impl Print + AllocGlobal), machine: &Machine<Errand>, t: Tid) -> io::Result<()> {
     match (machine.waited(t), machine.allowed(t)) {
         (Some(waited), Some(allowed)) => {
             println!(rt; "  thread {}: waited {waited}, allowed {allowed}", t.0)
@@ -140,9 +138,7 @@ fn print_wait(rt: &(impl Print + AllocGlobal), machine: &Machine<Errand>, t: Tid
 }
 
 /// Prints how long each thread waits that is ready.
-fn print_waits(rt: &(impl Print + AllocGlobal), machine: &Machine<Errand>) -> io::Result<()>
-    requires few { machine.now.turn.steps ≤ MOST_STEPS }
-{
+fn print_waits(rt: &(impl Print + AllocGlobal), machine: &Machine<Errand>) -> io::Result<()> {
     for number in 1..=machine.world().threads().made() {
         print_wait(rt, machine, Tid(number))?;
     }

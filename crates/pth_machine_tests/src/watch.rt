@@ -1,12 +1,8 @@
 //! The waits of all threads by the marks of a run, beside what the machine tells of them.
 
-ghost use Rattle.std.specs.Prelude.{◌≤◌};
-ghost use Rattle.pth_base.specs.Limits.{most_steps};
-
 use crate::change::{Change, Move, change_of};
 use crate::row::{Point, Row};
 use pth_base::ids::{MAIN, Tid};
-use pth_base::limits::MOST_STEPS;
 use pth_base::mark::Mark;
 use pth_base::memory::OutOfMemory;
 use pth_sched::machine::Machine;
@@ -123,21 +119,12 @@ impl Watch {
         }
     }
 
-    /// Compares what the machine tells of each thread.
-    fn hear(&mut self, rt: &impl Abort, machine: &Machine<Script>)
-        requires few { machine.now.turn.steps ≤ most_steps }
-    {
+    /// Compares what the machine tells of the wait of each thread.
+    pub fn ask(&mut self, rt: &impl Abort, machine: &Machine<Script>) {
         for row in self.rows.iter_mut() {
             let waited = machine.waited(row.tid);
             row.hear(rt, waited, machine.allowed(row.tid));
             self.longest = self.longest.max(waited.unwrap_or(0));
-        }
-    }
-
-    /// Asks the machine for the waits of all threads, as long as it may be asked.
-    pub fn ask(&mut self, rt: &impl Abort, machine: &Machine<Script>) {
-        if machine.steps() <= MOST_STEPS {
-            self.hear(rt, machine);
         }
     }
 }

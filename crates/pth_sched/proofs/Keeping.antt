@@ -1,5 +1,6 @@
 -- What the parts of a run keep.
-use Rattle.std.proofs.Common.{◌≡◌, ◌≢◌, ◌∙◌, ◌<◌, ℕ, true, Result, Ok, Err, OnOk, ℤ, length, refl, sym, ap, subst, arith, Option, Some, None, IsSome, IfSome}
+use Rattle.std.proofs.Common.{◌≡◌, ◌≢◌, ◌∙◌, ◌<◌, ◌≤◌, ℕ, true, Result, Ok, Err, OnOk, ℤ, length, refl, sym, ap, subst, arith, Option, Some, None, IsSome, IfSome}
+use Rattle.pth_base.specs.Limits.{most_steps}
 use Rattle.pth_base.specs.Program.{Functions}
 use Rattle.pth_base.specs.declared.outcome.Outcome.{Outcome}
 use Rattle.pth_base.specs.declared.outcome.Outcome.TheVariants.{Running, Ended, Killed, Stalled, OutOfMemory}
@@ -105,8 +106,9 @@ stopped_closed : (to steps : ℕ) (g : Option ℕ) → machine_stops_by to steps
 stopped_closed to steps None halt = refl
 stopped_closed to steps (Some t) halt = absurd (cc halt)
 
-pub stop_rests : {P S H : Type 0} (to : ℕ) (m : MachineOf P S H) → machine_stops to m ≡ true → Keeps m → Rests m
-stop_rests to m halt keeps = record {
+pub stop_rests : {P S H : Type 0} (to : ℕ) (m : MachineOf P S H) → machine_stops to m ≡ true → Keeps m → m.turn.steps ≤ to → to ≤ most_steps → Rests m
+stop_rests to m halt keeps within most = record {
   keeps = keeps;
+  few = omega arith;
   closed = λ goes nobody. stopped_closed to m.turn.steps m.turn.gave (subst (λ (o : Outcome). machine_stops_by to m.turn.steps m.turn.gave None o ≡ true) goes (subst (λ (r : Option ℕ). machine_stops_by to m.turn.steps m.turn.gave r m.turn.outcome ≡ true) nobody halt));
 }

@@ -1,5 +1,6 @@
 -- How a machine follows a run.
 use Rattle.std.specs.Prelude.{◌≡◌, ◌≢◌, ◌+◌, ◌≤◌, ◌++◌, ℕ, Bool, false, List, None, IsSome}
+use Rattle.pth_base.specs.Limits.{most_steps}
 use Rattle.pth_base.specs.Program.{Functions}
 use Rattle.pth_base.specs.declared.mark.Mark.{Mark}
 use Rattle.pth_base.specs.declared.outcome.Outcome.TheVariants.{Running, OutOfMemory}
@@ -87,7 +88,9 @@ pub record Keeps {P S H : Type 0} (m : MachineOf P S H) : Type 0 where
   pub going : IsGoing m
   pub ranks : IsRoofed m
 
--- what holds of it between two calls: as long as the run goes on, nobody has given up control where nobody runs
+-- what holds of it between two calls: no more steps were made than a machine makes, and as long as the run goes on, nobody has
+-- given up control where nobody runs
 pub record Rests {P S H : Type 0} (m : MachineOf P S H) : Type 0 where
   pub keeps : Keeps m
+  pub few : m.turn.steps ≤ most_steps
   pub closed : m.turn.outcome ≡ Running → m.world.scheduler.running ≡ None → m.turn.gave ≡ None

@@ -90,6 +90,14 @@ impl<P: Program> Machine<P> {
         }
     }
 
+    // Whether memory ran out.
+    fn is_over(&self) -> bool
+        ensures yes { result ≡ true → self.now.turn.outcome ≡ Outcome.OutOfMemory }
+        ensures no { result ≡ false → self.now.turn.outcome ≢ Outcome.OutOfMemory }
+    {
+        matches!(self.outcome(), Outcome::OutOfMemory)
+    }
+
     /// Makes the next `n` steps, and goes on by the parts after them that are no steps. Fewer steps are made where the run
     /// ends before. After an outcome that ends the run it answers the same again, and tells nothing.
     pub fn advance(&mut self, n: u64, marks: &mut Marks) -> Outcome
@@ -199,28 +207,29 @@ impl<P: Program> Machine<P> {
         u64::from(self.schedule.world().threads().made())
     }
 
-    /// How often another thread was dispatched since a thread became ready; none if it is not ready. pth(3) has no call for it.
+    /// How often another thread was dispatched since a thread became ready; none if it is not ready, and after want of memory.
+    /// pth(3) has no call for it.
     pub fn waited(&self, t: Tid) -> Option<u64>
-        requires few { self.now.turn.steps ≤ most_steps }
         ensures value { (c : Course P P.State P.Shared) → Stands self.now c → HasHistory c
             → result ≡ wait_of c.state.control t.0 }
+        ensures failed { self.now.turn.outcome ≡ Outcome.OutOfMemory → result ≡ None }
     {
-        if self.failed {
+        if self.is_over() {
             return None;
         }
         self.schedule.world().waited(t)
     }
 
-    /// How often another thread may be dispatched at most before a ready thread is, as things stand; none if it is not ready. In a
-    /// run it has waited at most so often. pth(3) has no call for it.
+    /// How often another thread may be dispatched at most before a ready thread is, as things stand; none if it is not ready, and
+    /// after want of memory. In a run it has waited at most so often. pth(3) has no call for it.
     pub fn allowed(&self, t: Tid) -> Option<u64>
-        requires few { self.now.turn.steps ≤ most_steps }
         ensures value { (c : Course P P.State P.Shared) → Stands self.now c → HasHistory c
             → result ≡ allowance_of c.state.control t.0 }
         ensures in_time { (g : Given P) (i : ℕ) → StandsAt P.functions g i self.now → let x = (run P.functions g i).state.control.threads in
             IfSome result (λ n. (s : Standing) → standing_of t.0 (x.standing queue.Ready) ≡ Some s → waited x.trail s ≤ n) }
+        ensures failed { self.now.turn.outcome ≡ Outcome.OutOfMemory → result ≡ None }
     {
-        if self.failed {
+        if self.is_over() {
             return None;
         }
         self.schedule.world().allowed(t)
@@ -245,9 +254,10 @@ impl<P: Program> Machine<P> {
 
     /// The numbers of the threads in the system that are not dead, the oldest first; none after want of memory.
     pub fn live(&self, alloc: Global) -> Result<Vec<Tid>, OutOfMemory>
-        ensures { IfOk result (λ v. (c : Course P P.State P.Shared) → Stands self.now c → map number_of v.items ≡ live_threads c.state) }
+        ensures live { IfOk result (λ v. (c : Course P P.State P.Shared) → Stands self.now c → map number_of v.items ≡ live_threads c.state) }
+        ensures failed { self.now.turn.outcome ≡ Outcome.OutOfMemory → IfOk result (λ v. v.items ≡ []) }
     {
-        if self.failed {
+        if self.is_over() {
             return Ok(Vec::new(alloc));
         }
         live(self.schedule.world(), alloc)

@@ -8,7 +8,7 @@ ghost use Rattle.pth_model.specs.State.{Control, State, now_of};
 ghost use Rattle.pth_world.specs.Leading.{LedTo};
 ghost use Rattle.pth_world.specs.Ranks.{greatest_return};
 ghost use Rattle.pth_world.specs.Shows.{Shows, StandsFor};
-ghost use Rattle.pth_world.specs.Sound.{IsSound, IsKnown};
+ghost use Rattle.pth_world.specs.Sound.{IsKnown};
 ghost use Rattle.pth_world.specs.Whole.{Whole};
 ghost use Rattle.pth_waits.specs.Dormant.{IsDormant, after_now};
 ghost use Rattle.pth_sched.specs.Calm.{AreDormant, Calms, CalmsBut, is_among_waiting};
@@ -28,7 +28,7 @@ use pth_world::world::World;
 
 // The rank at which a woken thread is ready: one above its base priority.
 fn woken_rank<P: Program>(w: &World<P>, t: Tid) -> i64
-    requires sound { IsSound w.now.threads }
+    requires whole { Whole w.now }
     requires known { IsKnown w.now.threads t.0 }
     ensures rank { (k : Control P P.State P.Shared) → Shows w.now k → result ≡ prio_of k t.0 +ℤ pos 1 }
     ensures low { neg_ℤ (pos 20) ≤ℤ result }

@@ -118,15 +118,15 @@ module _ (x : QueuesOf) (w : WaitsOf) (slots : ℕ) (due : List ℕ) (k : AreWai
 
   module _ (o : IsOrderly x) where
     -- a thread enters a queue
-    entered_with : (q : Queue) (rank : ℤ) (s : ℕ) (top : Bool) → IsNowhere s x → IsEntryRank rank → AreWaitsBeside (entered q rank s x) (waits_with q s rank top w) slots (due_with q s (waits_with q s rank top w) due)
+    entered_with : (q : Queue) (rank : ℤ) (s : ℕ) (top : Bool) → IsNowhere s x → (q ≡ Ready → IsEntryRank rank) → AreWaitsBeside (entered q rank s x) (waits_with q s rank top w) slots (due_with q s (waits_with q s rank top w) due)
     unfolding enters_ready
     entered_with Ready rank s top nowhere fits = record {
       room = k.room;
       top = k.top;
-      high = All-insert IsHigh (record { rank = rank; holder = s }) x.ready fits.low k.high;
+      high = All-insert IsHigh (record { rank = rank; holder = s }) x.ready (fits refl).low k.high;
       table = table-entered (slots_of x.ready) w due k.table (slots_of (insert (record { rank = rank; holder = s }) x.ready)) s (record { entered = w.dispatches; grace = grace w.top rank; number = 0; top = top }) fresh
           (λ f. counted-insert f (record { rank = rank; holder = s }) x.ready) (λ z h. stands-insert z (record { rank = rank; holder = s }) x.ready h) refl
-          (brief w.top rank (let t = k.top in let r = o.range.1 in omega arith) fits.low)
+          (brief w.top rank (let t = k.top in let r = o.range.1 in omega arith) (fits refl).low)
           (omega (arith, length-map (insert (record { rank = rank; holder = s }) x.ready) (λ r. r.holder), length-insert (record { rank = rank; holder = s }) x.ready, few_rows Ready x o));
     }
       where
@@ -137,7 +137,7 @@ module _ (x : QueuesOf) (w : WaitsOf) (slots : ℕ) (due : List ℕ) (k : AreWai
     entered_with Suspended rank s top nowhere fits = record { room = k.room; top = k.top; high = k.high; table = k.table }
     entered_with Dead rank s top nowhere fits = record { room = k.room; top = k.top; high = k.high; table = k.table }
 
-    pub beside_entered : (v : QueuesOf) (y : WaitsOf) (n : ℕ) (to : List ℕ) (q : Queue) (rank : ℤ) (s : ℕ) (top : Bool) → IsNowhere s x → IsEntryRank rank → v ≡ entered q rank s x → y ≡ waits_with q s rank top w → n ≡ slots → to ≡ due_with q s y due → AreWaitsBeside v y n to
+    pub beside_entered : (v : QueuesOf) (y : WaitsOf) (n : ℕ) (to : List ℕ) (q : Queue) (rank : ℤ) (s : ℕ) (top : Bool) → IsNowhere s x → (q ≡ Ready → IsEntryRank rank) → v ≡ entered q rank s x → y ≡ waits_with q s rank top w → n ≡ slots → to ≡ due_with q s y due → AreWaitsBeside v y n to
     beside_entered v y n to q rank s top nowhere fits is ys ns ts =
         subst (AreWaitsBeside v y n) (sym ts)
         (subst (λ (m : ℕ). AreWaitsBeside v y m (due_with q s y due)) (sym ns)

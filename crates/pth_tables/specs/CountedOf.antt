@@ -1,7 +1,7 @@
 -- What contracts see of counted queues, and its changes.
-use Rattle.std.specs.Prelude.{ℕ, Bool, ℤ, pos, neg_ℤ, ◌≤ℤ◌, ◌^◌, Option, Some}
+use Rattle.std.specs.Prelude.{◌≡◌, ℕ, Bool, ℤ, pos, neg_ℤ, ◌≤ℤ◌, ◌^◌, Option, Some}
 use Rattle.pth_queue.specs.Arena.{slots_of}
-use Rattle.pth_queue.specs.Queues.{QueuesOf, no_queues, queue_of, entered, without}
+use Rattle.pth_queue.specs.Queues.{QueuesOf, IsRank, no_queues, queue_of, entered, without}
 use Rattle.pth_queue.specs.declared.queue.Queue.{Queue}
 use Rattle.pth_queue.specs.declared.queue.Queue.TheVariants.{New, Ready, Waiting, Suspended, Dead}
 use Rattle.pth_tables.specs.Waits.{WaitsOf, KeptWaits, waits_of, no_waits, enters_ready, leaves_ready, takes_ready}
@@ -22,10 +22,15 @@ counted kept = record { queues = kept.queues; waits = waits_of kept.waits }
 abbrev pub nothing_counted : ℕ → CountedOf
 nothing_counted top = record { queues = no_queues top; waits = no_waits top }
 
--- a rank at which threads enter: a base priority is -20 at least
+-- a rank at which threads enter the ready queue: a base priority is -20 at least
 pub record IsEntryRank (rank : ℤ) : Type 0 where
   pub low : neg_ℤ (pos 20) ≤ℤ rank
   pub high : rank ≤ℤ pos (2 ^ 40)
+
+-- a rank at which a thread may enter this queue: one that queues take, and where waits are counted, one at which threads are ready
+pub record MayEnter (q : Queue) (rank : ℤ) : Type 0 where
+  pub taken : IsRank rank
+  pub ready : q ≡ Ready → IsEntryRank rank
 
 -- only of the ready queue waits are counted
 abbrev pub waits_with : Queue → ℕ → ℤ → Bool → WaitsOf → WaitsOf

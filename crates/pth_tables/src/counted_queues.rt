@@ -116,7 +116,7 @@ impl Drop for CountedQueues {
 
 impl CountedQueues {
     ghost use Rattle.pth_tables.specs.Waits.{waited_by, allowed_by, TellsTurn};
-    ghost use Rattle.pth_tables.specs.CountedOf.{counted, nothing_counted, enters_counted, leaves_counted, takes_counted, IsEntryRank};
+    ghost use Rattle.pth_tables.specs.CountedOf.{counted, nothing_counted, enters_counted, leaves_counted, takes_counted, MayEnter};
 
     /// Five empty queues, no dispatch, and no slot that may be used (`pth_pqueue_init`). Base priorities go up to `top`, which is from 5 to 20.
     pub fn new(alloc: Global, top: u8) -> CountedQueues
@@ -163,7 +163,7 @@ impl CountedQueues {
     pub fn insert(&mut self, q: Queue, rank: i64, s: Slot, top: bool)
         requires reserved { s.0 < self.old.queues.room }
         requires nowhere { IsNowhere s.0 self.old.queues }
-        requires rank { IsEntryRank rank }
+        requires rank { MayEnter q rank }
         ensures { counted self.new ≡ enters_counted q rank s.0 top (counted self.old) }
     {
         let _home = self.queues.queue_of(s);

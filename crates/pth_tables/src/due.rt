@@ -21,7 +21,7 @@ pub fn nobody() -> [u32; 64]
 /// A thread enters a queue.
 pub fn enter(q: Queue, rank: i64, s: Slot, top: bool, waits: &mut Waits, due: &mut [u32; 64])
     requires room { s.0 < length waits.old.slots }
-    requires rank { IsEntryRank rank }
+    requires rank { q ≡ Queue.Ready → IsEntryRank rank }
     ensures value { waits_of waits.new ≡ waits_with q s.0 rank top (waits_of waits.old) }
     ensures room { length waits.new.slots ≡ length waits.old.slots }
     ensures due { due.new ≡ due_with q s.0 (waits_of waits.new) due.old }

@@ -20,7 +20,7 @@ use Rattle.pth_model.specs.Living.{is_dead}
 use Rattle.pth_model.specs.Resources.{Store, store_without}
 use Rattle.pth_model.specs.ThreadControl.{may_run}
 use Rattle.pth_world.specs.Store.{StoreOf, store_of, HasNothing}
-use Rattle.pth_world.specs.Sound.{IsSound, IsKnown, IsAlive, lives}
+use Rattle.pth_world.specs.Sound.{IsSound, IsKnown, IsAlive, HasPrio, lives}
 use Rattle.pth_world.specs.Whole.{View, view, Fits, FitsEntry, Whole, WholeBut, IsRunner, IsIn, IsBefore, Newly, Waiting, IsAbout, CanSuspend, MayBlock, MayStandIn, StoresAlive, WaitsToRun, OfNew, OfReady, place_for}
 use Rattle.pth_world.specs.Touches.{Touches, SameThreads, view_changed, view_placed, view_blocked}
 use Rattle.pth_world.proofs.Slots.{name_is, used, some_is}
@@ -145,6 +145,7 @@ ready_fits r q None p h b e f = tt
 ready_fits r q (Some d) p h b e f =
     let k = before_is q d.state d.suspended b (sym e ∙ f.placed) in
     record {
+      prio = f.prio;
       placed = rw k.0 refl;
       runs = λ is. absurd (k.1 (f.runs is));
       named = λ is. absurd (cc is);
@@ -179,6 +180,7 @@ make_ready_whole w m v t q whole known b stands left same entered kept runs stor
 pub rerun_fits : (r q : Option ℕ) (t : ℕ) (o : Option Entry) (p : Option Queue) (h : Option Blocked) → IsAbout r t → IsAbout q t → tid_of o ≢ t → FitsEntry r o p h → FitsEntry q o p h
 rerun_fits r q t None p h a b apart f = tt
 rerun_fits r q t (Some e) p h a b apart f = record {
+  prio = f.prio;
   placed = f.placed;
   runs = λ is. absurd (apart (b e.tid.0 is));
   named = λ is. absurd (apart (a e.tid.0 (f.named is)));
@@ -229,14 +231,14 @@ back_by : (t : ℕ) (e : Entry) (o : Option Entry) (h : Option Blocked) → o �
 unfolding changed
 back_by t e (Some d) h has awake f =
     let a : d.suspended ≡ false = cc (has, awake) in
-    record { placed = rw a refl; runs = λ is. absurd (cc is); named = λ is. absurd (cc is); awake = λ is. absurd (cc (is, a)); calls = f.calls }
+    record { prio = f.prio; placed = rw a refl; runs = λ is. absurd (cc is); named = λ is. absurd (cc is); awake = λ is. absurd (cc (is, a)); calls = f.calls }
 back_by t e None h has awake f = tt
 
 waits_by : (t : ℕ) (e : Entry) (o : Option Entry) (h : Option Blocked) → o ≡ Some e → e.suspended ≡ false → FitsEntry (Some t) o None h → FitsEntry None (option_map (changed (change.State state.Waiting)) o) (Some queue.Waiting) h
 unfolding changed
 waits_by t e (Some d) h has awake f =
     let a : d.suspended ≡ false = cc (has, awake) in
-    record { placed = rw a refl; runs = λ is. absurd (cc is); named = λ is. absurd (cc is); awake = λ is. absurd (cc (is, a)); calls = f.calls }
+    record { prio = f.prio; placed = rw a refl; runs = λ is. absurd (cc is); named = λ is. absurd (cc is); awake = λ is. absurd (cc (is, a)); calls = f.calls }
 waits_by t e None h has awake f = tt
 
 -- a ready thread runs
@@ -245,7 +247,7 @@ unfolding changed
 runs_by t n None p h stands named f = tt
 runs_by t n (Some e) p h stands named f =
     let a : e.suspended ≡ false = ready_awake e.state e.suspended (sym stands ∙ f.placed) in
-    record { placed = rw a refl; runs = λ is. refl; named = λ is. ap Some (sym named); awake = λ is. absurd (cc (is, a)); calls = f.calls }
+    record { prio = f.prio; placed = rw a refl; runs = λ is. refl; named = λ is. ap Some (sym named); awake = λ is. absurd (cc (is, a)); calls = f.calls }
   where
     ready_awake : (s : ThreadState) (b : Bool) → Some queue.Ready ≡ place_for s b → b ≡ false
     ready_awake s true h = absurd (cc h)
@@ -312,7 +314,7 @@ progress_whole w v t u g whole e touches sound slots running store objects fits 
 
 blocked_entry : (r : Option ℕ) (o : Option Entry) (p : Option Queue) (h k : Option Blocked) → ((e : Entry) → o ≡ Some e → IfSome k (λ c. MayBlock e.tid.0 c)) → FitsEntry r o p h → FitsEntry r o p k
 blocked_entry r None p h k calls f = tt
-blocked_entry r (Some e) p h k calls f = record { placed = f.placed; runs = f.runs; named = f.named; awake = f.awake; calls = calls e refl }
+blocked_entry r (Some e) p h k calls f = record { prio = f.prio; placed = f.placed; runs = f.runs; named = f.named; awake = f.awake; calls = calls e refl }
 
 -- no call suspends it
 pub unblocked_fits : (r : Option ℕ) (v : View) → Fits r v → Fits r (view_blocked None v)
@@ -344,6 +346,7 @@ runs_other t x r is apart = rw (is, not_same x t apart) refl
 stopped_fits : (r : Option ℕ) (t : ℕ) (o : Option Entry) (p : Option Queue) (b : Option Blocked) → tid_of o ≢ t → FitsEntry r o p b → FitsEntry (other_than t r) o p b
 stopped_fits r t None p b apart f = tt
 stopped_fits r t (Some e) p b apart f = record {
+  prio = f.prio;
   placed = f.placed;
   runs = λ is. f.runs (other_runs t r e.tid.0 is).0;
   named = λ is. runs_other t e.tid.0 r (f.named is) apart;
@@ -363,7 +366,7 @@ stopped_runner w v r t kept known = by_runner (other_than t r) refl
 dead_by : (t : ℕ) (n : ℤ) (r : Option ℕ) (o : Option Entry) (p : Option Queue) (b : Option Blocked) → tid_of o ≡ t → FitsEntry r o p b → FitsEntry (other_than t r) (option_map (changed (change.Value n)) (option_map (changed (change.Suspended false)) (option_map (changed (change.State state.Dead)) o))) (Some queue.Dead) b
 unfolding changed
 dead_by t n r None p b own f = tt
-dead_by t n r (Some e) p b own f = record { placed = refl; runs = λ is. absurd ((other_runs t r e.tid.0 is).1 own); named = λ is. absurd (cc is); awake = λ is. absurd (cc is); calls = f.calls }
+dead_by t n r (Some e) p b own f = record { prio = f.prio; placed = refl; runs = λ is. absurd ((other_runs t r e.tid.0 is).1 own); named = λ is. absurd (cc is); awake = λ is. absurd (cc is); calls = f.calls }
 
 module _ {P S H : Type 0} (w v : WorldOf P S H) (t u : ℕ) (whole : Whole w) (e : slot_of w.threads.records t ≡ Some u) (rests : v.scheduler.running ≡ other_than t w.scheduler.running) where
   others_stop : (i : ℕ) → tid_at w.threads.records i ≢ t → Fits w.scheduler.running (view w.threads i) → Fits v.scheduler.running (view w.threads i)
@@ -411,7 +414,7 @@ module _ {P S H : Type 0} (w v : WorldOf P S H) (t u : ℕ) (whole : Whole w) (e
 moved_by : (r : Option ℕ) (q : Queue) (b : Bool) (o : Option Entry) (p : Option Queue) (h : Option Blocked) → IfSome o (λ e. MayStandIn q b e.state) → FitsEntry r o p h → FitsEntry r (option_map (changed (change.Suspended b)) o) (Some q) h
 unfolding changed
 moved_by r q b None p h may f = tt
-moved_by r q b (Some e) p h may f = record { placed = may.0; runs = f.runs; named = f.named; awake = λ is. may.1; calls = f.calls }
+moved_by r q b (Some e) p h may f = record { prio = f.prio; placed = may.0; runs = f.runs; named = f.named; awake = λ is. may.1; calls = f.calls }
 
 lives_moved : (b : Bool) (o : Option Entry) → lives o ≡ lives (option_map (changed (change.Suspended b)) o)
 unfolding changed
@@ -560,12 +563,12 @@ can_suspend w t e whole runs known is may =
 
 -- ---- all but one thread
 
--- t is gone, and does not run
-pub gone_but : {P S H : Type 0} (w v : WorldOf P S H) (t u : ℕ) → slot_of w.threads.records t ≡ Some u → ((i : ℕ) → tid_at w.threads.records i ≢ t → view v.threads i ≡ view w.threads i) → RemovesThread w.threads.records v.threads.records u → IsSound v.threads → v.scheduler.running ≡ w.scheduler.running → store_of v.store ≡ store_without t (store_of w.store) → v.attributes ≡ w.attributes → v.threads.queues.top ≡ w.threads.queues.top → w.scheduler.running ≢ Some t → WholeBut w t → WholeBut v t
-gone_but w v t u e others gone sound running store objects tops rests but = record {
+-- t is gone, whoever runs
+pub gone_but : {P S H : Type 0} (w v : WorldOf P S H) (t u : ℕ) → slot_of w.threads.records t ≡ Some u → ((i : ℕ) → tid_at w.threads.records i ≢ t → view v.threads i ≡ view w.threads i) → RemovesThread w.threads.records v.threads.records u → IsSound v.threads → v.scheduler.running ≡ w.scheduler.running → store_of v.store ≡ store_without t (store_of w.store) → v.attributes ≡ w.attributes → v.threads.queues.top ≡ w.threads.queues.top → WholeBut w t → WholeBut v t
+gone_but w v t u e others gone sound running store objects tops but = record {
   sound = sound;
   fits = λ i apart. fits_by i (tid_at w.threads.records i == t) refl;
-  runner = rw running (by_runner w.scheduler.running rests but.runner);
+  runner = rw running (if_some (λ r. r ≢ t → IsKnown w.threads r) (λ r. r ≢ t → IsKnown v.threads r) w.scheduler.running (λ r known apart. still r apart (known apart)) but.runner);
   stored = λ r apart. left_stored w v t r but.sound store same_slot others (but.stored r);
   top = ap (λ (x : AttrsOf). x.top) objects ∙ but.top ∙ sym tops;
 }
@@ -586,10 +589,6 @@ gone_but w v t u e others gone sound running store objects tops rests but = reco
     still : (x : ℕ) → x ≢ t → IsKnown w.threads x → IsKnown v.threads x
     still x apart known = rw (same_slot x apart) known
 
-    by_runner : (r : Option ℕ) → r ≢ Some t → IfSome r (IsKnown w.threads) → IfSome r (IsKnown v.threads)
-    by_runner None other known = tt
-    by_runner (Some x) other known = still x (λ is. other (ap Some is)) known
-
 module _ {P S H : Type 0} (w v : WorldOf P S H) (t : ℕ) where
   -- a change of t alone, whoever runs
   pub but_kept : (g : View → View) → Touches w.threads v.threads t g → SameThreads w.threads v.threads → v.scheduler.running ≡ w.scheduler.running → v.store ≡ w.store → v.attributes ≡ w.attributes → IsSound v.threads → WholeBut w t → WholeBut v t
@@ -598,20 +597,37 @@ module _ {P S H : Type 0} (w v : WorldOf P S H) (t : ℕ) where
     fits = λ i apart. (
         let there : tid_at w.threads.records i ≢ t = λ at. apart (ap (λ (k : ℕ → ℕ). k i) same.tids ∙ at) in
         subst (λ (k : View). Fits v.scheduler.running k) (sym (touches.others i there)) (fits_same w.scheduler.running v.scheduler.running (view w.threads i) running (but.fits i there)));
-    runner = runner_kept w v same.slots running but.runner;
+    runner = rw running (if_some (λ r. r ≢ t → IsKnown w.threads r) (λ r. r ≢ t → IsKnown v.threads r) w.scheduler.running (λ r known apart. rw same.slots (known apart)) but.runner);
     stored = λ r apart. stores_as w v r store (entry_kept w.threads v.threads t r but.sound (ap (λ (k : ℕ → Option ℕ). k r) same.slots) touches.others apart) (but.stored r apart);
     top = ap (λ (x : AttrsOf). x.top) objects ∙ but.top ∙ sym touches.top;
   }
 
 -- where none but t runs, before and after
-pub rerun_but : {P S H : Type 0} (w v : WorldOf P S H) (t : ℕ) → v.threads ≡ w.threads → v.store ≡ w.store → v.attributes ≡ w.attributes → IsAbout w.scheduler.running t → IsAbout v.scheduler.running t → IsRunner v → WholeBut w t → WholeBut v t
-rerun_but w v t same store objects before after runner but = record {
+pub rerun_but : {P S H : Type 0} (w v : WorldOf P S H) (t : ℕ) → v.threads ≡ w.threads → v.store ≡ w.store → v.attributes ≡ w.attributes → IsAbout w.scheduler.running t → IsAbout v.scheduler.running t → WholeBut w t → WholeBut v t
+rerun_but w v t same store objects before after but = record {
   sound = rw same but.sound;
   fits = rw same (λ i apart. rerun_others w v.scheduler.running t before after i apart (but.fits i apart));
-  runner = runner;
+  runner = about_runs v.scheduler.running after;
   stored = λ r apart. stores_as w v r store (ap (λ (x : ThreadsBySlot _). entry_in x r) same) (but.stored r apart);
   top = ap (λ (x : AttrsOf). x.top) objects ∙ but.top ∙ sym (ap (λ (x : ThreadsBySlot _). x.queues.top) same);
 }
+  where
+    about_runs : (o : Option ℕ) → IsAbout o t → IfSome o (λ r. r ≢ t → IsKnown v.threads r)
+    about_runs None about = tt
+    about_runs (Some r) about = λ apart. absurd (apart (about r refl))
+
+-- each thread has a base priority of a world
+pub whole_prio : {P S H : Type 0} (w : WorldOf P S H) (t : ℕ) → Whole w → HasPrio (entry_in w.threads t)
+unfolding seen
+whole_prio w t whole = by_slots (slot_of w.threads.records t)
+  where
+    by_entry : (u : ℕ) (o : Option Entry) → FitsEntry w.scheduler.running o (view w.threads u).place (view w.threads u).blocked → HasPrio o
+    by_entry u None f = tt
+    by_entry u (Some e) f = f.prio
+
+    by_slots : (o : Option ℕ) → HasPrio (by_slot None (entry_at w.threads.records) o)
+    by_slots None = tt
+    by_slots (Some u) = by_entry u (entry_at w.threads.records u) (whole.fits u)
 
 -- the call that blocks a thread is one that may
 pub blocked_may : {P S H : Type 0} (w : WorldOf P S H) (t u : ℕ) → Whole w → slot_of w.threads.records t ≡ Some u → IfSome (view w.threads u).blocked (λ b. MayBlock t b)

@@ -22,7 +22,7 @@ use Rattle.pth_model.specs.State.{Control}
 use Rattle.pth_world.specs.Frame.{Frame}
 use Rattle.pth_world.specs.Numbering.{Thread, Object, Event, Port, Numbers, no_numbers, GivesAtMost}
 use Rattle.pth_world.specs.Shows.{Shows, ShowsThreads}
-use Rattle.pth_world.specs.Sound.{IsSound, IsKnown, IsAlive, KeepsAttributes, lives}
+use Rattle.pth_world.specs.Sound.{IsSound, IsKnown, IsAlive, IsPrio, KeepsPrio, lives}
 use Rattle.pth_world.specs.Touches.{Touches, SameThreads, IsAside, view_changed}
 use Rattle.pth_world.specs.Whole.{Whole, FitsEntry, Fits, View, view}
 use Rattle.pth_world.specs.World.{WorldOf, ThreadsBySlot}
@@ -52,24 +52,37 @@ module _ {P S H : Type 0} (w : WorldOf P S H) (y : AttrsOf) where
 is_aside : (d c : Change) → Some d ≡ Some c → IsAside d → IsAside c
 is_aside d c same aside = let e : d ≡ c = cc in subst IsAside e aside
 
-keeps_attributes : (top : ℕ) → top ≤ 20 → (c : Change) → KeepsSet top c → KeepsAttributes c
-keeps_attributes top most (change.Prio prio) set = record { low = (let h = set.low in omega (arith, ints)); high = (let h = set.high in omega (arith, ints)) }
-keeps_attributes top most (change.Cancel cancel) set = record { low = set.low; high = set.high }
-keeps_attributes top most (change.Name name) set = tt
-keeps_attributes top most (change.Joinable b) set = tt
-keeps_attributes top most (change.Request b) set = tt
-keeps_attributes top most (change.State s) set = tt
-keeps_attributes top most (change.Suspended b) set = tt
-keeps_attributes top most (change.Dispatches n) set = tt
-keeps_attributes top most (change.Value n) set = tt
+keeps_prio : (top : ℕ) → top ≤ 20 → (c : Change) → KeepsSet top c → KeepsPrio c
+keeps_prio top most (change.Prio prio) set = record { low = (let h = set.low in omega (arith, ints)); high = (let h = set.high in omega (arith, ints)) }
+keeps_prio top most (change.Name name) set = tt
+keeps_prio top most (change.Joinable b) set = tt
+keeps_prio top most (change.Cancel cancel) set = tt
+keeps_prio top most (change.Request b) set = tt
+keeps_prio top most (change.State s) set = tt
+keeps_prio top most (change.Suspended b) set = tt
+keeps_prio top most (change.Dispatches n) set = tt
+keeps_prio top most (change.Value n) set = tt
+
+-- the base priority of a record after such a change
+set_prio : (c : Change) (e : Entry) → KeepsPrio c → IsPrio e.prio → IsPrio (changed c e).prio
+unfolding changed
+set_prio (change.Prio prio) e keeps has = keeps
+set_prio (change.Name name) e keeps has = has
+set_prio (change.Joinable b) e keeps has = has
+set_prio (change.Cancel cancel) e keeps has = has
+set_prio (change.Request b) e keeps has = has
+set_prio (change.State s) e keeps has = has
+set_prio (change.Suspended b) e keeps has = has
+set_prio (change.Dispatches n) e keeps has = has
+set_prio (change.Value n) e keeps has = has
 
 -- such a field says nothing of where a thread stands, and whether it runs
-aside_fits : (c : Change) → IsAside c → (r : Option ℕ) (o : Option Entry) (p : Option Queue) (b : Option Blocked) → FitsEntry r o p b → FitsEntry r (option_map (changed c) o) p b
+aside_fits : (c : Change) → IsAside c → KeepsPrio c → (r : Option ℕ) (o : Option Entry) (p : Option Queue) (b : Option Blocked) → FitsEntry r o p b → FitsEntry r (option_map (changed c) o) p b
 unfolding changed
-aside_fits c aside r None p b f = tt
-aside_fits (change.State s) aside r (Some e) p b f = absurd aside
-aside_fits (change.Suspended x) aside r (Some e) p b f = absurd aside
-aside_fits c aside r (Some e) p b f = record { placed = f.placed; runs = f.runs; named = f.named; awake = f.awake; calls = f.calls }
+aside_fits c aside keeps r None p b f = tt
+aside_fits (change.State s) aside keeps r (Some e) p b f = absurd aside
+aside_fits (change.Suspended x) aside keeps r (Some e) p b f = absurd aside
+aside_fits c aside keeps r (Some e) p b f = record { prio = set_prio c e keeps f.prio; placed = f.placed; runs = f.runs; named = f.named; awake = f.awake; calls = f.calls }
 
 -- nor whether it lives
 aside_lives : (c : Change) → IsAside c → (o : Option Entry) → lives o ≡ lives (option_map (changed c) o)
@@ -92,15 +105,15 @@ module _ {P S H : Type 0} (w : WorldOf P S H) (r : ThreadsOf) where
   abbrev with_records : WorldOf P S H
   with_records = record w { threads = record w.threads { records = r } }
 
-  field_whole : (t u : ℕ) (c : Change) → IsAside c → Whole w → slot_of w.threads.records t ≡ Some u → Touches w.threads with_records.threads t (view_changed c) → IsSound with_records.threads → slot_of r ≡ slot_of w.threads.records → Whole with_records
-  field_whole t u c aside whole at touches sound slots =
+  field_whole : (t u : ℕ) (c : Change) → IsAside c → KeepsPrio c → Whole w → slot_of w.threads.records t ≡ Some u → Touches w.threads with_records.threads t (view_changed c) → IsSound with_records.threads → slot_of r ≡ slot_of w.threads.records → Whole with_records
+  field_whole t u c aside keeps whole at touches sound slots =
       progress_whole w with_records t u (view_changed c) whole at touches sound slots refl refl refl
-      (λ q f. aside_fits c aside q (view w.threads u).entry (view w.threads u).place (view w.threads u).blocked f)
+      (λ q f. aside_fits c aside keeps q (view w.threads u).entry (view w.threads u).place (view w.threads u).blocked f)
       (λ dead. aside_lives c aside (view w.threads u).entry ∙ dead)
 
-  pub field_frame : (t u : ℕ) (c : Change) → IsAside c → Whole w → slot_of w.threads.records t ≡ Some u → Touches w.threads with_records.threads t (view_changed c) → IsSound with_records.threads → SameThreads w.threads with_records.threads → Frame w with_records no_numbers w.scheduler.running false
-  field_frame t u c aside whole at touches sound same = record {
-    whole = field_whole t u c aside whole at touches sound same.slots;
+  pub field_frame : (t u : ℕ) (c : Change) → IsAside c → KeepsPrio c → Whole w → slot_of w.threads.records t ≡ Some u → Touches w.threads with_records.threads t (view_changed c) → IsSound with_records.threads → SameThreads w.threads with_records.threads → Frame w with_records no_numbers w.scheduler.running false
+  field_frame t u c aside keeps whole at touches sound same = record {
+    whole = field_whole t u c aside keeps whole at touches sound same.slots;
     runs = refl;
     made = elim [ Thread ↦ (let e = same.made in omega arith) | Object ↦ omega arith | Event ↦ omega arith | Port ↦ omega arith ];
     ranks = record { under = λ roof low h. h; fresh = omega arith };
@@ -108,15 +121,15 @@ module _ {P S H : Type 0} (w : WorldOf P S H) (r : ThreadsOf) where
   }
 
 -- a field of a thread in the system was set
-pub known_frame : {P S H : Type 0} (w v : WorldOf P S H) (t : ℕ) (c : Change) → IsAside c → Whole w → IsKnown w.threads t → Touches w.threads v.threads t (view_changed c) → IsSound v.threads → SameThreads w.threads v.threads → v ≡ record w { threads = record w.threads { records = v.threads.records } } → Frame w v no_numbers w.scheduler.running false
-known_frame {P = P} {S = S} {H = H} w v t c aside whole known touches sound same is = by_slot (slot_of w.threads.records t) refl known
+pub known_frame : {P S H : Type 0} (w v : WorldOf P S H) (t : ℕ) (c : Change) → IsAside c → KeepsPrio c → Whole w → IsKnown w.threads t → Touches w.threads v.threads t (view_changed c) → IsSound v.threads → SameThreads w.threads v.threads → v ≡ record w { threads = record w.threads { records = v.threads.records } } → Frame w v no_numbers w.scheduler.running false
+known_frame {P = P} {S = S} {H = H} w v t c aside keeps whole known touches sound same is = by_slot (slot_of w.threads.records t) refl known
   where
     threads : v.threads ≡ record w.threads { records = v.threads.records }
     threads = ap (λ (x : WorldOf P S H). x.threads) is
 
     by_slot : (o : Option ℕ) → slot_of w.threads.records t ≡ o → IsSome o → Frame w v no_numbers w.scheduler.running false
     by_slot None none some = absurd (cc some)
-    by_slot (Some u) at some = subst (λ (x : WorldOf P S H). Frame w x no_numbers w.scheduler.running false) (sym is) (field_frame w v.threads.records t u c aside whole at (subst (λ x. Touches w.threads x t (view_changed c)) threads touches) (subst IsSound threads sound) (subst (SameThreads w.threads) threads same))
+    by_slot (Some u) at some = subst (λ (x : WorldOf P S H). Frame w x no_numbers w.scheduler.running false) (sym is) (field_frame w v.threads.records t u c aside keeps whole at (subst (λ x. Touches w.threads x t (view_changed c)) threads touches) (subst IsSound threads sound) (subst (SameThreads w.threads) threads same))
 
 -- ---- a value of an object, or of its thread
 
@@ -183,8 +196,9 @@ module _ {P S H : Type 0} (w : WorldOf P S H) (x : AttrsOf) (r : ThreadsOf) (a :
   set_whole (Some (Free y)) some s whole = rw s.1 (objects_whole w x s.0.top whole)
   set_whole (Some (Bound t)) some s whole =
       let set = s.1 in
-      let sound = change_sound w.threads whole.sound t.0 set.slot set.found r set.change (keeps_attributes w.attributes.top (subst (λ (n : ℕ). n ≤ 20) (sym whole.top) whole.sound.orderly.range.1) set.change set.keeps) set.changes in
-      let fits = λ (q : Option ℕ) (f : Fits q (view w.threads set.slot)). aside_fits set.change (meant_aside v set.change set.meant) q (view w.threads set.slot).entry (view w.threads set.slot).place (view w.threads set.slot).blocked f in
+      let sound = change_sound w.threads whole.sound t.0 set.slot set.found r set.change set.changes in
+      let keeps = keeps_prio w.attributes.top (subst (λ (n : ℕ). n ≤ 20) (sym whole.top) whole.sound.orderly.range.1) set.change set.keeps in
+      let fits = λ (q : Option ℕ) (f : Fits q (view w.threads set.slot)). aside_fits set.change (meant_aside v set.change set.meant) keeps q (view w.threads set.slot).entry (view w.threads set.slot).place (view w.threads set.slot).blocked f in
       progress_whole w after t.0 set.slot (view_changed set.change) whole set.found (change_touches w.threads whole.sound t.0 set.slot set.found r set.change set.changes) sound set.changes.slots refl refl s.0 fits (λ dead. aside_lives set.change (meant_aside v set.change set.meant) (view w.threads set.slot).entry ∙ dead)
 
   pub set_frame : (o : Option Attribute) → is_none o ≡ false → Sets w.attributes x w.threads.records r (number a) v o → Whole w → Frame w after no_numbers w.scheduler.running false

@@ -16,7 +16,6 @@ use Rattle.pth_queue.proofs.Names.{IsQueued-insert, IsQueued-delete, IsQueued-in
 use Rattle.pth_queue.proofs.Sets.{IsOrderly-entered, IsOrderly-increased}
 use Rattle.pth_threads.specs.Threads.{ThreadsOf, slot_of, tid_at, entry_at, tid_of, count, changed, made_of, ChangesThread, AddsThread, RemovesThread}
 use Rattle.pth_threads.specs.declared.entry.Change.{Change}
-use Rattle.pth_threads.specs.declared.entry.Change.TheVariants as change
 use Rattle.pth_threads.specs.declared.entry.Entry.{Entry}
 use Rattle.pth_threads.specs.declared.entry.NewThread.{NewThread}
 use Rattle.pth_model.specs.declared.progress.Progress.{Progress}
@@ -28,28 +27,9 @@ use Rattle.std.proofs.lemmas.Bool.{cases_Bool, cases_lt}
 use Rattle.std.proofs.Common.{inl, inr}
 use Rattle.pth_tables.specs.Waits.{KeptWaits}
 use Rattle.pth_world.specs.World.{ThreadsBySlot}
-use Rattle.pth_world.specs.Sound.{IsSound, IsBare, IsPrio, IsCancel, HasAttributes, KeepsAttributes}
+use Rattle.pth_world.specs.Sound.{IsSound, IsBare}
 use Rattle.pth_world.proofs.Slots.{name_is, used, low, not_unused}
 use Rattle.pth_world.proofs.Places.{nowhere-holds, orderly-without}
-
-changed_has : (c : Change) (e : Entry) → KeepsAttributes c → HasAttributes e → HasAttributes (changed c e)
-unfolding changed
-changed_has (change.Prio n) e k h = record { prio = k; cancel = h.cancel }
-changed_has (change.Name n) e k h = record { prio = h.prio; cancel = h.cancel }
-changed_has (change.Joinable b) e k h = record { prio = h.prio; cancel = h.cancel }
-changed_has (change.Cancel n) e k h = record { prio = h.prio; cancel = k }
-changed_has (change.Request b) e k h = record { prio = h.prio; cancel = h.cancel }
-changed_has (change.State state) e k h = record { prio = h.prio; cancel = h.cancel }
-changed_has (change.Suspended on) e k h = record { prio = h.prio; cancel = h.cancel }
-changed_has (change.Dispatches n) e k h = record { prio = h.prio; cancel = h.cancel }
-changed_has (change.Value value) e k h = record { prio = h.prio; cancel = h.cancel }
-
-is_entry : {d e : Entry} → Some d ≡ Some e → d ≡ e
-is_entry h = cc
-
-changed_by : (c : Change) (o : Option Entry) (d : Entry) → KeepsAttributes c → ((e : Entry) → o ≡ Some e → HasAttributes e) → option_map (changed c) o ≡ Some d → HasAttributes d
-changed_by c (Some e) d k old h = subst HasAttributes (is_entry h) (changed_has c e k (old e refl))
-changed_by c None d k old h = absurd (cc h)
 
 pub some_kept : {A : Type 0} (h : A → A) (o : Option A) → IsSome o → IsSome (option_map h o)
 some_kept h (Some x) s = refl
@@ -96,8 +76,8 @@ module _ {S : Type 0} (w : ThreadsBySlot S) (sound : IsSound w) where
   f = tid_at w.records
 
   module _ (t u : ℕ) (e : slot_of w.records t ≡ Some u) where
-    pub change_sound : (x : ThreadsOf) (c : Change) → KeepsAttributes c → ChangesThread w.records x u c → IsSound (record w { records = x })
-    change_sound x c keeps ch = record {
+    pub change_sound : (x : ThreadsOf) (c : Change) → ChangesThread w.records x u c → IsSound (record w { records = x })
+    change_sound x c ch = record {
       tied = rw (ch.slots, ch.tids) sound.tied;
       fresh = rw (ch.slots, ch.made) sound.fresh;
       empty = λ v zero. (let z : f v ≡ 0 = ap (λ (k : ℕ → ℕ). k v) (sym ch.tids) ∙ zero in ap (λ (k : ℕ → Option Entry). k v) ch.entries ∙ put_other (entry_at w.records) u _ v (not_unused w t u sound e v z) ∙ sound.empty v z);
@@ -107,7 +87,6 @@ module _ {S : Type 0} (w : ThreadsBySlot S) (sound : IsSound w) where
       room = sound.room;
       orderly = sound.orderly;
       long = sound.long;
-      attributes = λ v d h. (let Q : Option Entry → Type 0 = λ o. o ≡ Some d → HasAttributes d in put_by Q (entry_at w.records) u (option_map (changed c) (entry_at w.records u)) v (λ same. changed_by c (entry_at w.records u) d keeps (sound.attributes u)) (λ apart. sound.attributes v d)) (ap (λ (k : ℕ → Option Entry). k v) (sym ch.entries) ∙ h);
       present = rw (ch.slots, ch.entries, ch.count, ch.made, seen_put None (slot_of w.records) f (entry_at w.records) t u (option_map (changed c) (entry_at w.records u)) sound.tied e, ← seen_at None (slot_of w.records) (entry_at w.records) t u e) (number-change (seen None (slot_of w.records) (entry_at w.records)) w.records.made t (changed c) ∙ sound.present);
     }
 
@@ -122,12 +101,11 @@ module _ {S : Type 0} (w : ThreadsBySlot S) (sound : IsSound w) where
       room = sound.room;
       orderly = sound.orderly;
       long = long;
-      attributes = sound.attributes;
       present = sound.present;
     }
 
     queues_sound : (y : QueuesOf) (n : KeptWaits) → y.room ≡ w.queues.room → IsOrderly y → ((q : Queue) → IsQueued f (rows_of q y)) → IsSound (record w { queues = y; waits = n })
-    queues_sound y n room orderly queued = record { tied = sound.tied; fresh = sound.fresh; empty = sound.empty; bare = sound.bare; recorded = sound.recorded; queued = queued; room = room ∙ sound.room; orderly = orderly; long = sound.long; attributes = sound.attributes; present = sound.present }
+    queues_sound y n room orderly queued = record { tied = sound.tied; fresh = sound.fresh; empty = sound.empty; bare = sound.bare; recorded = sound.recorded; queued = queued; room = room ∙ sound.room; orderly = orderly; long = sound.long; present = sound.present }
 
     in_room : u < w.queues.room
     in_room = subst (λ (n : ℕ). u < n) (sym sound.room) (low w t u sound e)
@@ -157,7 +135,6 @@ module _ {S : Type 0} (w : ThreadsBySlot S) (sound : IsSound w) where
       room = sound.room;
       orderly = sound.orderly;
       long = long;
-      attributes = λ v k h. (let Q : Option Entry → Type 0 = λ o. o ≡ Some k → HasAttributes k in put_by Q (entry_at w.records) u None v (λ same no. absurd (cc no)) (λ apart. sound.attributes v k)) (ap (λ (o : ℕ → Option Entry). o v) (sym gone.entries) ∙ h);
       present = let known : seen None (slot_of w.records) (entry_at w.records) t ≡ Some its_entry.0 = seen_at None (slot_of w.records) (entry_at w.records) t u e ∙ its_entry.1 in
           let named : tid_at w.records u ≡ t = name_is w t u sound e in
           let some : 0 < t = above_zero t (λ zero. used w t u sound e (named ∙ zero)) in
@@ -172,11 +149,11 @@ module _ {S : Type 0} (w : ThreadsBySlot S) (sound : IsSound w) where
         same_after h = omega arith
 
   pub raise_sound : (y : QueuesOf) (n : KeptWaits) → CanRise w.queues.ready → y ≡ with_rows queue.Ready (increase w.queues.ready) w.queues → IsSound (record w { queues = y; waits = n })
-  raise_sound y n rise is = rw is (record { tied = sound.tied; fresh = sound.fresh; empty = sound.empty; bare = sound.bare; recorded = sound.recorded; queued = λ p. rows_kept (IsQueued f) queue.Ready p _ w.queues (IsQueued-increase f w.queues.ready (sound.queued queue.Ready)) sound.queued; room = sound.room; orderly = IsOrderly-increased queue.Ready w.queues sound.orderly rise; long = sound.long; attributes = sound.attributes; present = sound.present })
+  raise_sound y n rise is = rw is (record { tied = sound.tied; fresh = sound.fresh; empty = sound.empty; bare = sound.bare; recorded = sound.recorded; queued = λ p. rows_kept (IsQueued f) queue.Ready p _ w.queues (IsQueued-increase f w.queues.ready (sound.queued queue.Ready)) sound.queued; room = sound.room; orderly = IsOrderly-increased queue.Ready w.queues sound.orderly rise; long = sound.long; present = sound.present })
 
-  pub add_sound : (x : ThreadsOf) (y : List (Option (Progress S))) (u : ℕ) (of : NewThread) (c : Progress S) → IsPrio of.prio → IsCancel of.cancel → AddsThread w.records x u (made_of of (w.records.made + 1)) → table None y ≡ put (table None w.progress) u (Some c) → length y ≡ thread_limit → IsSound (record w { records = x; progress = y })
+  pub add_sound : (x : ThreadsOf) (y : List (Option (Progress S))) (u : ℕ) (of : NewThread) (c : Progress S) → AddsThread w.records x u (made_of of (w.records.made + 1)) → table None y ≡ put (table None w.progress) u (Some c) → length y ≡ thread_limit → IsSound (record w { records = x; progress = y })
   unfolding made_of
-  add_sound x y u of c prio cancel adds has long = record {
+  add_sound x y u of c adds has long = record {
     tied = adds.tied;
     fresh = λ v above. rw adds.slots (put_other (slot_of w.records) (w.records.made + 1) (Some u) v (λ same. absurd (omega (arith, adds.made))) ∙ sound.fresh v (omega (arith, adds.made)));
     empty = rw adds.tids (bare_is None (put f u (w.records.made + 1)) (entry_at x) (put (entry_at w.records) u (Some (made_of of (w.records.made + 1)))) adds.entries (bare_added None f (entry_at w.records) u (w.records.made + 1) _ (no_next w.records.made) sound.empty));
@@ -186,6 +163,5 @@ module _ {S : Type 0} (w : ThreadsBySlot S) (sound : IsSound w) where
     room = sound.room;
     orderly = sound.orderly;
     long = long;
-    attributes = λ v k h. (let Q : Option Entry → Type 0 = λ o. o ≡ Some k → HasAttributes k in put_by Q (entry_at w.records) u (Some _) v (λ same is. subst HasAttributes (is_entry is) (record { prio = prio; cancel = cancel })) (λ apart. sound.attributes v k)) (ap (λ (o : ℕ → Option Entry). o v) (sym adds.entries) ∙ h);
     present = rw (adds.slots, adds.entries, adds.count, adds.made, seen_add None (slot_of w.records) f (entry_at w.records) (w.records.made + 1) u sound.tied (Some (made_of of (w.records.made + 1))) adds.unused) (number-new (seen None (slot_of w.records) (entry_at w.records)) w.records.made (made_of of (w.records.made + 1)) ∙ ap (λ (n : ℕ). n + 1) sound.present);
   }

@@ -49,7 +49,7 @@ use Rattle.pth_model.specs.Allowance.{has_entry, points, waited}
 use Rattle.pth_tables.specs.Waits.{WaitsOf, KeptWaits, waits_of, no_waits}
 use Rattle.pth_tables.specs.Counts.{Counts, IsCounted}
 use Rattle.pth_tables.proofs.CountsKept.{counts_start}
-use Rattle.pth_world.specs.Sound.{IsSound, HasAttributes, IsKnown}
+use Rattle.pth_world.specs.Sound.{IsSound, IsKnown}
 use Rattle.pth_world.specs.Whole.{IsBeforeReady, Newly, view, Fits, FitsEntry, Whole}
 use Rattle.pth_world.proofs.Showing.{not_known}
 use Rattle.pth_world.proofs.Places.{queue-entered}
@@ -80,9 +80,6 @@ module _ {P S H : Type 0} (f : P → Functions S H) (program : P) (top : ℕ) (r
   none_queued queue.Suspended = tt
   none_queued queue.Dead = tt
 
-  no_attributes : (v : ℕ) (e : Entry) → entry_at t0 v ≡ Some e → HasAttributes e
-  no_attributes v e h = absurd (cc (sym (ap (λ (k : ℕ → Option Entry). k v) entries) ∙ h))
-
   none_orderly : IsOrderly (record (no_queues top) { room = thread_limit })
   none_orderly = record { each = none_ordered; once = λ v. omega arith; few = omega arith; range = range }
     where
@@ -105,7 +102,6 @@ module _ {P S H : Type 0} (f : P → Functions S H) (program : P) (top : ℕ) (r
     room = refl;
     orderly = none_orderly;
     long = long0;
-    attributes = no_attributes;
     present = ap (number_known (seen None (slot_of t0) (entry_at t0))) none_made ∙ sym no_count;
   }
 

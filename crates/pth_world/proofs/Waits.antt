@@ -1,5 +1,5 @@
 -- What is kept for the waits of ready threads stays what the trail tells, as threads move.
-use Rattle.std.proofs.Common.{◌≡◌, ◌≢◌, ℕ, zero, suc, ◌+◌, ◌<◌, ◌≤◌, ◌==◌, Bool, true, false, cond, if◌then◌else◌, int_lt, ℤ, List, [], ◌∷◌, ◌++◌, map, length, length-append, count_by, Contains, Option, Some, None, is_some, option_map, lt-ltb, refl, sym, ◌∙◌, ap, subst, arith}
+use Rattle.std.proofs.Common.{◌≡◌, ◌≢◌, ℕ, zero, suc, ◌+◌, ◌<◌, ◌≤◌, ◌==◌, Bool, true, false, cond, if◌then◌else◌, int_lt, ℤ, pos, List, [], ◌∷◌, ◌++◌, map, length, length-append, count_by, Contains, Option, Some, None, is_some, option_map, lt-ltb, refl, sym, ◌∙◌, ap, subst, arith}
 use Rattle.pth_base.proofs.Tables.{same_self, put_other}
 use Rattle.pth_queue.specs.declared.ranked.Ranked.{Ranked}
 use Rattle.pth_queue.specs.declared.queue.Queue.{Queue}
@@ -26,14 +26,14 @@ use Rattle.pth_model.proofs.Once.{stands-cons}
 use Rattle.pth_tables.specs.Waits.{WaitsOf, KeptWaits, waits_of, enters_ready, leaves_ready, takes_ready, dispatched, reached_all, reached, seen_at_top, met, is_due, waited_by, allowed_by, allowed_taken, is_counting}
 use Rattle.pth_tables.specs.declared.waits.Turn.{Turn}
 use Rattle.pth_tables.specs.Counts.{Counts, IsCounted, AreSlotsOf}
-use Rattle.pth_tables.specs.CountedOf.{CountedOf, KeptQueues, IsEntryRank, waits_with, waits_without}
+use Rattle.pth_tables.specs.CountedOf.{CountedOf, KeptQueues, IsEntryRank, MayEnter, waits_with, waits_without}
 use Rattle.std.proofs.lemmas.Int.{ints}
 use Rattle.pth_tables.proofs.CountsKept.{counts_entered, counts_later, counts_left, counts_slots}
 use Rattle.pth_tables.proofs.CountsTaken.{counts_taken, taken_waited, taken_allowed, ready_waited, ready_allowed}
 use Rattle.pth_tables.proofs.TrailsCounted.{found-is, found-standing, left_none}
 use Rattle.pth_world.specs.World.{ThreadsBySlot}
 use Rattle.pth_world.specs.Shows.{ShowsThreads, IsHistory, CountsWaits, IsTurnOf}
-use Rattle.pth_world.specs.Sound.{IsSound}
+use Rattle.pth_world.specs.Sound.{IsSound, IsPrio}
 use Rattle.pth_world.proofs.Places.{nowhere-holds}
 use Rattle.pth_world.proofs.QueueReads.{count-named, count-unknown}
 
@@ -52,6 +52,16 @@ kept_waits c = waits_of c.waits
 
 pub rank_of_entry : (rank : ℤ) → IsEntryRank rank → IsRank rank
 rank_of_entry rank fits = (let low = fits.low in let high = fits.high in record { low = grind (arith, ints); high = high })
+
+-- at such a rank a thread may enter any queue; a base priority is one, and so is 0
+pub may_enter : (q : Queue) (rank : ℤ) → IsEntryRank rank → MayEnter q rank
+may_enter q rank fits = record { taken = rank_of_entry rank fits; ready = λ is. fits }
+
+pub prio_enters : (q : Queue) (prio : ℤ) → IsPrio prio → MayEnter q prio
+prio_enters q prio h = may_enter q prio (let low = h.low in let high = h.high in record { low = low; high = grind (arith, ints) })
+
+pub zero_enters : (q : Queue) → MayEnter q (pos 0)
+zero_enters q = may_enter q (pos 0) (record { low = omega (arith, ints); high = omega (arith, ints) })
 
 some_same : {A : Type 0} {x y : A} → Some x ≡ Some y → x ≡ y
 some_same e = cc

@@ -25,7 +25,7 @@ use Rattle.pth_model.specs.Part.{step_of, stepping}
 use Rattle.pth_tables.specs.Waits.{KeptWaits, waits_of}
 use Rattle.pth_world.specs.World.{WorldOf, ThreadsBySlot, entry_in}
 use Rattle.pth_world.specs.Shows.{Shows, ShowsThreads}
-use Rattle.pth_world.specs.Sound.{IsSound, IsKnown, IsPrio, IsCancel, lives}
+use Rattle.pth_world.specs.Sound.{IsSound, IsKnown, IsPrio, lives}
 use Rattle.pth_world.specs.Whole.{View, view, Fits, FitsEntry, StoresAlive, Whole, WholeBut}
 use Rattle.pth_world.specs.Touches.{Touches, same_view}
 use Rattle.pth_tables.specs.StepsAt.{StepsAt}
@@ -138,7 +138,7 @@ module _ {P S H : Type 0} (w v : WorldOf P S H) (t u : ℕ) (sound : IsSound w.t
   next_but = but_kept w v t same_view next_touches (record { slots = ap (λ (z : ThreadsBySlot S). slot_of z.records) threads_are; tids = ap (λ (z : ThreadsBySlot S). tid_at z.records) threads_are; made = ap (λ (z : ThreadsBySlot S). z.records.made) threads_are }) (ap (λ (z : WorldOf P S H). z.scheduler.running) same) (ap (λ (z : WorldOf P S H). z.store) same) (ap (λ (z : WorldOf P S H). z.attributes) same) next_sound
 
 -- a new thread
-module _ {P S H : Type 0} (w : WorldOf P S H) (whole : Whole w) (x : ThreadsOf) (y : List (Option (Progress S))) (z : QueuesOf) (n : KeptWaits) (u : ℕ) (of : NewThread) (prio : IsPrio of.prio) (cancel : IsCancel of.cancel) (c : Progress S) (bare : c.blocked ≡ None) (adds : AddsThread w.threads.records x u (made_of of (w.threads.records.made + 1))) (has : table None y ≡ put (table None w.threads.progress) u (Some c)) (long : length y ≡ thread_limit) (placed : z ≡ entered queue.New of.prio u w.threads.queues) (waits : waits_of n ≡ waits_of w.threads.waits) where
+module _ {P S H : Type 0} (w : WorldOf P S H) (whole : Whole w) (x : ThreadsOf) (y : List (Option (Progress S))) (z : QueuesOf) (n : KeptWaits) (u : ℕ) (of : NewThread) (prio : IsPrio of.prio) (c : Progress S) (bare : c.blocked ≡ None) (adds : AddsThread w.threads.records x u (made_of of (w.threads.records.made + 1))) (has : table None y ≡ put (table None w.threads.progress) u (Some c)) (long : length y ≡ thread_limit) (placed : z ≡ entered queue.New of.prio u w.threads.queues) (waits : waits_of n ≡ waits_of w.threads.waits) where
   abbrev t : ℕ
   t = w.threads.records.made + 1
 
@@ -150,7 +150,7 @@ module _ {P S H : Type 0} (w : WorldOf P S H) (whole : Whole w) (x : ThreadsOf) 
   slot = ap (λ (k : ℕ → Option ℕ). k t) adds.slots ∙ put_here (slot_of w.threads.records) t (Some u)
 
   sound : IsSound v.threads
-  sound = add_sound w.threads whole.sound x y u of c prio cancel adds has long
+  sound = add_sound w.threads whole.sound x y u of c adds has long
 
   pub spawn_nowhere : IsNowhere u w.threads.queues
   spawn_nowhere = unused-nowhere (tid_at w.threads.records) u w.threads.queues whole.sound.queued adds.unused
@@ -200,7 +200,7 @@ module _ {P S H : Type 0} (w : WorldOf P S H) (whole : Whole w) (x : ThreadsOf) 
 
   fits_new : FitsEntry w.scheduler.running (Some (made_of of t)) (Some queue.New) None
   unfolding made_of
-  fits_new = record { placed = refl; runs = λ is. absurd (not_new is); named = λ is. absurd (cc is); awake = λ is. absurd (cc is); calls = tt }
+  fits_new = record { prio = prio; placed = refl; runs = λ is. absurd (not_new is); named = λ is. absurd (cc is); awake = λ is. absurd (cc is); calls = tt }
 
   fits_at : (i : ℕ) (b : Bool) → (i == u) ≡ b → Fits w.scheduler.running (view all.threads i)
   fits_at i true is = subst (λ (k : View). Fits w.scheduler.running k) (sym (ap (view all.threads) (same_means i u is) ∙ view_new)) fits_new
@@ -242,7 +242,6 @@ module _ {P S H : Type 0} (w : WorldOf P S H) (x : ThreadsOf) (same : IsSame w.t
     room = sound.room;
     orderly = sound.orderly;
     long = sound.long;
-    attributes = rw same.entries sound.attributes;
     present = rw (same.slots, same.entries, same.count, same.made) sound.present;
   }
 

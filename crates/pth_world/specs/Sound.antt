@@ -1,5 +1,5 @@
 -- What every change of a world's threads keeps.
-use Rattle.std.specs.Prelude.{◌≡◌, ◌≢◌, ◌<◌, ◌≤◌, ℕ, ℤ, pos, neg_ℤ, ◌≤ℤ◌, true, length, Some, None, IsSome}
+use Rattle.std.specs.Prelude.{◌≡◌, ◌≢◌, ◌<◌, ℕ, ℤ, pos, neg_ℤ, ◌≤ℤ◌, true, length, Option, None, IsSome, IfSome}
 use Rattle.pth_base.specs.Limits.{thread_limit}
 use Rattle.pth_base.specs.Table.{table}
 use Rattle.pth_base.specs.Naming.{IsTied, seen}
@@ -23,21 +23,14 @@ pub record IsPrio (prio : ℤ) : Type 0 where
   pub low : neg_ℤ (pos 20) ≤ℤ prio
   pub high : prio ≤ℤ pos 20
 
--- a cancel state: 1 enabled and deferred, 2 disabled and deferred, 3 enabled and asynchronous, 4 disabled and asynchronous
-pub record IsCancel (cancel : ℕ) : Type 0 where
-  pub low : 1 ≤ cancel
-  pub high : cancel ≤ 4
+-- the record of a thread, if there is one, has such a base priority
+abbrev pub HasPrio : Option Entry → Type 0
+HasPrio o = IfSome o (λ e. IsPrio e.prio)
 
--- what holds of the attributes of a thread
-pub record HasAttributes (e : Entry) : Type 0 where
-  pub prio : IsPrio e.prio
-  pub cancel : IsCancel e.cancel
-
--- a change of a record that leaves the base priority and the cancel state, or sets one of them to another
-abbrev pub KeepsAttributes : Change → Type 0
-KeepsAttributes (change.Prio prio) = IsPrio prio
-KeepsAttributes (change.Cancel cancel) = IsCancel cancel
-KeepsAttributes c = Unit {0}
+-- a change of a record that leaves the base priority, or sets it to such a one
+abbrev pub KeepsPrio : Change → Type 0
+KeepsPrio (change.Prio prio) = IsPrio prio
+KeepsPrio c = Unit {0}
 
 -- names are tied to slots, and each part speaks of threads in the system alone
 pub record IsSound {S : Type 0} (x : ThreadsBySlot S) : Type 0 where
@@ -54,7 +47,6 @@ pub record IsSound {S : Type 0} (x : ThreadsBySlot S) : Type 0 where
   -- each queue is in order, and no slot stands in two
   pub orderly : IsOrderly x.queues
   pub long : length x.progress ≡ thread_limit
-  pub attributes : (u : ℕ) (e : Entry) → entry_at x.records u ≡ Some e → HasAttributes e
   -- the threads are counted by slot as by number
   pub present : number_known (seen None (slot_of x.records) (entry_at x.records)) x.records.made ≡ count x.records
 

@@ -20,7 +20,7 @@ use Rattle.pth_model.specs.State.{main}
 use Rattle.pth_model.specs.Changes.{blocked_in, queue_for}
 use Rattle.pth_world.specs.Store.{store_of, HasNothing}
 use Rattle.pth_world.specs.World.{WorldOf, ThreadsBySlot, entry_in}
-use Rattle.pth_world.specs.Sound.{IsSound, IsKnown, lives}
+use Rattle.pth_world.specs.Sound.{IsSound, IsKnown, IsPrio, lives}
 
 -- what there is at a slot
 pub record View : Type 0 where
@@ -103,9 +103,10 @@ CanSuspend s = Unit {0}
 abbrev pub MayStandIn : Queue → Bool → ThreadState → Type 0
 MayStandIn q suspended state = (Some q ≡ place_for state suspended) × CanSuspend state
 
--- what holds of each thread in the system: it stands in exactly the queue of its state, the thread that runs is the one
--- that is running, and the call that blocks it is one that may
+-- what holds of each thread in the system: its base priority is one of a world, it stands in exactly the queue of its state,
+-- the thread that runs is the one that is running, and the call that blocks it is one that may
 pub record IsFitting (running : Option ℕ) (e : Entry) (place : Option Queue) (blocked : Option Blocked) : Type 0 where
+  pub prio : IsPrio e.prio
   pub placed : place ≡ place_for e.state e.suspended
   pub runs : running ≡ Some e.tid.0 → e.state ≡ state.Running
   pub named : e.state ≡ state.Running → running ≡ Some e.tid.0
@@ -123,6 +124,10 @@ Fits running v = FitsEntry running v.entry v.place v.blocked
 abbrev pub IsRunner : {P S H : Type 0} → WorldOf P S H → Type 0
 IsRunner w = IfSome w.scheduler.running (λ t. IsKnown w.threads t)
 
+-- and so, unless it is t
+abbrev pub IsRunnerBut : {P S H : Type 0} → WorldOf P S H → ℕ → Type 0
+IsRunnerBut w t = IfSome w.scheduler.running (λ r. r ≢ t → IsKnown w.threads r)
+
 -- a thread has something stored only while it is alive
 abbrev pub StoresAlive : {P S H : Type 0} → WorldOf P S H → ℕ → Type 0
 StoresAlive w t = lives (entry_in w.threads t) ≡ false → HasNothing (store_of w.store) t
@@ -136,11 +141,11 @@ pub record Whole {P S H : Type 0} (w : WorldOf P S H) : Type 0 where
   -- priorities are set up to the same greatest one as the queues have
   pub top : w.attributes.top ≡ w.threads.queues.top
 
--- what holds of it while thread t is changed: all but what t itself fits, and has stored
+-- what holds of it while thread t is changed: all but what is said of t itself. Nor need t be in the system if it runs.
 pub record WholeBut {P S H : Type 0} (w : WorldOf P S H) (t : ℕ) : Type 0 where
   pub sound : IsSound w.threads
   pub fits : (u : ℕ) → tid_at w.threads.records u ≢ t → Fits w.scheduler.running (view w.threads u)
-  pub runner : IsRunner w
+  pub runner : IsRunnerBut w t
   pub stored : (u : ℕ) → u ≢ t → StoresAlive w u
   pub top : w.attributes.top ≡ w.threads.queues.top
 

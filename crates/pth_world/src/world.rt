@@ -10,8 +10,9 @@ ghost use Rattle.pth_model.specs.State.{Control};
 ghost use Rattle.pth_model.specs.Changes.{runs_now, prefers, favours_new, prio_of};
 ghost use Rattle.pth_model.specs.Ending.{other_than, stops_running};
 ghost use Rattle.pth_world.specs.Shows.{Shows};
-ghost use Rattle.pth_world.specs.Sound.{IsSound, IsPrio, IsKnown};
-ghost use Rattle.pth_world.specs.Whole.{Whole, WholeBut, IsAbout, IsRunner};
+ghost use Rattle.pth_world.specs.Sound.{IsSound, IsPrio, HasPrio, IsKnown};
+ghost use Rattle.pth_world.specs.Whole.{Whole, WholeBut, IsAbout};
+ghost use Rattle.pth_world.specs.World.{entry_in};
 
 mod attributes;
 mod barriers;
@@ -206,6 +207,7 @@ impl<P: Program> World<P> {
     fn prio(&self, t: Tid, slot: Slot) -> i64
         requires sound { IsSound self.now.threads }
         requires at { slot_of self.now.threads.records t.0 ≡ Some slot.0 }
+        requires prio { HasPrio (entry_in self.now.threads t.0) }
         ensures prio { (k : Control P P.State P.Shared) → Shows self.now k → result ≡ prio_of k t.0 }
         ensures low { IsPrio result }
     {
@@ -230,7 +232,7 @@ impl<P: Program> World<P> {
     pub fn set_running(&mut self, t: Option<Tid>)
         ensures same { self.new ≡ record self.old { scheduler = record self.old.scheduler { running = option_map number_of t } } }
         ensures shows { (k : Control P P.State P.Shared) → Shows self.old k → Shows self.new (runs_now (option_map number_of t) k) }
-        ensures but { (u : ℕ) → IsAbout self.old.scheduler.running u → IsAbout self.new.scheduler.running u → IsRunner self.new → WholeBut self.old u → WholeBut self.new u }
+        ensures but { (u : ℕ) → IsAbout self.old.scheduler.running u → IsAbout self.new.scheduler.running u → WholeBut self.old u → WholeBut self.new u }
     {
         self.running = t;
     }

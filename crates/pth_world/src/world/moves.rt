@@ -48,8 +48,9 @@ impl<P: Program> World<P> {
         ensures ranks { rank ≤ℤ pos greatest_return → KeepsRanks 0 self.old.threads self.new.threads }
         ensures stays { (u : ℕ) → WaitsToRun self.old.threads u → WaitsToRun self.new.threads u }
     {
-        self.take_out(t);
-        self.put_ready(t, rank, top);
+        let slot = self.slot(t);
+        self.take_from(t, slot);
+        self.put_ready_at(t, slot, rank, top);
     }
 
     /// A ready thread is dispatched: it runs, its dispatches are one more, and nobody is named any longer. The answer says how often
@@ -122,7 +123,7 @@ impl<P: Program> World<P> {
     {
         self.take_out(t);
         self.change(t, Change::Suspended(suspended));
-        self.put_in(t, q, 0, false);
+        self.put_in(t, q, 0);
     }
 
     /// A thread that is new, ready or waits stands among the suspended ones, at rank 0, and keeps its state (`pth_suspend`).
@@ -190,7 +191,7 @@ impl<P: Program> World<P> {
         self.change(t, Change::State(ThreadState::Dead));
         self.change(t, Change::Suspended(false));
         self.change(t, Change::Value(value));
-        self.put_in(t, Queue::Dead, 0, false);
+        self.put_in(t, Queue::Dead, 0);
         self.stop_running(t);
     }
 

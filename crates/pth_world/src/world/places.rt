@@ -1,7 +1,7 @@
 //! The queues in which threads stand.
 
-ghost use Rattle.std.specs.Prelude.{◌≡◌, ◌≢◌, ◌<◌, ◌≤◌, length, ℕ, Option, Some, None, IfSome};
-ghost use Rattle.pth_tables.specs.CountedOf.{IsEntryRank};
+ghost use Rattle.std.specs.Prelude.{◌≡◌, ◌≢◌, ◌<◌, ◌≤◌, length, ℕ, Option, Some, None, IfSome, false};
+ghost use Rattle.pth_tables.specs.CountedOf.{MayEnter};
 ghost use Rattle.pth_queue.specs.Queues.{IsNowhere, CanRise, entered, without, with_rows};
 ghost use Rattle.pth_queue.specs.Ranking.{increase};
 ghost use Rattle.pth_queue.specs.declared.queue.Queue.TheVariants as queue;
@@ -23,14 +23,13 @@ use pth_queue::queue::Queue;
 use pth_tables::waits::Turn;
 
 impl<P: Program> World<P> {
-    /// Puts a thread that stands nowhere into a queue at a rank, and leaves its state. `top` says that it is a new thread that is
-    /// favoured.
-    pub fn put_in(&mut self, t: Tid, q: Queue, rank: i64, top: bool)
+    /// Puts a thread that stands nowhere into a queue at a rank, and leaves its state.
+    pub fn put_in(&mut self, t: Tid, q: Queue, rank: i64)
         requires sound { IsSound self.old.threads }
         requires known { IsKnown self.old.threads t.0 }
         requires nowhere { IfSome (slot_of self.old.threads.records t.0) (λ u. IsNowhere u self.old.threads.queues) }
-        requires rank { IsEntryRank rank }
-        ensures shows { (k : Control P P.State P.Shared) → Shows self.old k → Shows self.new (enters t.0 q rank top k) }
+        requires rank { MayEnter q rank }
+        ensures shows { (k : Control P P.State P.Shared) → Shows self.old k → Shows self.new (enters t.0 q rank false k) }
         ensures sound { IsSound self.new.threads }
         ensures touches { Touches self.old.threads self.new.threads t.0 (view_placed (Some q)) }
         ensures but { WholeBut self.old t.0 → WholeBut self.new t.0 }
@@ -38,16 +37,17 @@ impl<P: Program> World<P> {
         ensures same { SameButQueues self.old self.new }
     {
         let slot = self.slot(t);
-        self.put_at(t, slot, q, rank, top);
+        self.put_at(t, slot, q, rank, false);
     }
 
-    // Puts the thread at a slot, which stands nowhere, into a queue at a rank, and leaves its state.
+    // Puts the thread at a slot, which stands nowhere, into a queue at a rank, and leaves its state. `top` says that it is a new
+    // thread that is favoured.
     #[inline(always)]
     pub(crate) fn put_at(&mut self, t: Tid, slot: Slot, q: Queue, rank: i64, top: bool)
         requires sound { IsSound self.old.threads }
         requires at { slot_of self.old.threads.records t.0 ≡ Some slot.0 }
         requires nowhere { IfSome (slot_of self.old.threads.records t.0) (λ u. IsNowhere u self.old.threads.queues) }
-        requires rank { IsEntryRank rank }
+        requires rank { MayEnter q rank }
         ensures shows { (k : Control P P.State P.Shared) → Shows self.old k → Shows self.new (enters t.0 q rank top k) }
         ensures sound { IsSound self.new.threads }
         ensures touches { Touches self.old.threads self.new.threads t.0 (view_placed (Some q)) }

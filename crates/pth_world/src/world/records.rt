@@ -22,10 +22,11 @@ ghost use Rattle.pth_world.specs.Numbering.{HasNumbers, no_numbers};
 ghost use Rattle.pth_world.specs.Ranks.{KeepsRanks};
 ghost use Rattle.pth_world.specs.Shows.{Shows, StandsFor};
 ghost use Rattle.pth_world.specs.Store.{store_of, HasNothing};
-ghost use Rattle.pth_world.specs.Sound.{IsSound, IsKnown, IsAlive, IsPrio, IsCancel, KeepsAttributes};
+ghost use Rattle.pth_world.specs.Sound.{IsSound, IsKnown, IsAlive, IsPrio, HasPrio, KeepsPrio};
 ghost use Rattle.pth_world.specs.Frame.{Frame};
 ghost use Rattle.pth_world.specs.Whole.{Whole, WholeBut, view};
 ghost use Rattle.pth_world.specs.Touches.{IsAside, SameButStates, SameThreads, Touches, view_changed, view_placed};
+ghost use Rattle.pth_world.specs.World.{entry_in};
 
 use crate::world::World;
 use pth_base::answer::Answer;
@@ -202,7 +203,6 @@ impl<P: Program> World<P> {
     pub fn change(&mut self, t: Tid, c: Change)
         requires sound { IsSound self.old.threads }
         requires known { IsKnown self.old.threads t.0 }
-        requires attributes { KeepsAttributes c }
         requires countable { IsCountable c }
         ensures shows { (k : Control P P.State P.Shared) → Shows self.old k → Shows self.new (sets t.0 c k) }
         ensures sound { IsSound self.new.threads }
@@ -220,7 +220,6 @@ impl<P: Program> World<P> {
     pub(crate) fn change_of(&mut self, t: Tid, slot: Slot, c: Change)
         requires sound { IsSound self.old.threads }
         requires at { slot_of self.old.threads.records t.0 ≡ Some slot.0 }
-        requires attributes { KeepsAttributes c }
         requires countable { IsCountable c }
         ensures shows { (k : Control P P.State P.Shared) → Shows self.old k → Shows self.new (sets t.0 c k) }
         ensures sound { IsSound self.new.threads }
@@ -237,7 +236,7 @@ impl<P: Program> World<P> {
     pub fn set_field(&mut self, t: Tid, c: Change)
         requires whole { Whole self.old }
         requires known { IsKnown self.old.threads t.0 }
-        requires attributes { KeepsAttributes c }
+        requires prio { KeepsPrio c }
         requires countable { IsCountable c }
         requires aside { IsAside c }
         ensures shows { (k : Control P P.State P.Shared) → Shows self.old k → Shows self.new (sets t.0 c k) }
@@ -272,7 +271,7 @@ impl<P: Program> World<P> {
         ensures shows { (k : Control P P.State P.Shared) → Shows self.old k → Shows self.new (removes t.0 k) }
         ensures sound { IsSound self.new.threads }
         ensures others { (u : ℕ) → tid_at self.old.threads.records u ≢ t.0 → view self.new.threads u ≡ view self.old.threads u }
-        ensures but { self.old.scheduler.running ≢ Some t.0 → WholeBut self.old t.0 → WholeBut self.new t.0 }
+        ensures but { WholeBut self.old t.0 → WholeBut self.new t.0 }
         ensures threads { IfSome (slot_of self.old.threads.records t.0)
             (λ u. RemovesThread self.old.threads.records self.new.threads.records u) }
         ensures queues { IfSome (slot_of self.old.threads.records t.0) (λ u. self.new.threads.queues ≡ without u self.old.threads.queues) }
@@ -327,7 +326,6 @@ impl<P: Program> World<P> {
         requires whole { Whole self.old }
         requires bodies { body.0 < (P.functions self.old.program).bodies }
         requires prio { IsPrio of.prio }
-        requires cancel { IsCancel of.cancel }
         requires few { HasNumbers self.old }
         ensures tid { IfOk result (λ t. t.0 ≡ self.old.threads.records.made + 1) }
         ensures made { OnOk result (self.new.threads.records.made ≡ self.old.threads.records.made + 1) }
@@ -364,14 +362,14 @@ impl<P: Program> World<P> {
         Ok(t)
     }
 
-    /// Makes a thread ready, and puts it into the ready queue at a rank. `top` says that it is a new thread that is favoured.
-    pub fn put_ready(&mut self, t: Tid, rank: i64, top: bool)
+    /// Makes a thread ready, and puts it into the ready queue at a rank.
+    pub fn put_ready(&mut self, t: Tid, rank: i64)
         requires sound { IsSound self.old.threads }
         requires known { IsKnown self.old.threads t.0 }
         requires nowhere { IfSome (slot_of self.old.threads.records t.0) (λ u. IsNowhere u self.old.threads.queues) }
         requires rank { IsEntryRank rank }
         ensures shows { (k : Control P P.State P.Shared) → Shows self.old k
-            → Shows self.new (enters t.0 queue.Ready rank top (sets t.0 (change.State state.Ready) k)) }
+            → Shows self.new (enters t.0 queue.Ready rank false (sets t.0 (change.State state.Ready) k)) }
         ensures sound { IsSound self.new.threads }
         ensures touches { Touches self.old.threads self.new.threads t.0
             (λ v. view_placed (Some queue.Ready) (view_changed (change.State state.Ready) v)) }
@@ -382,10 +380,11 @@ impl<P: Program> World<P> {
         ensures same { SameButStates self.old self.new }
     {
         let slot = self.slot(t);
-        self.put_ready_at(t, slot, rank, top);
+        self.put_ready_at(t, slot, rank, false);
     }
 
-    // Makes the thread at a slot ready, and puts it into the ready queue at a rank.
+    // Makes the thread at a slot ready, and puts it into the ready queue at a rank. `top` says that it is a new thread that is
+    // favoured.
     #[inline(always)]
     pub(crate) fn put_ready_at(&mut self, t: Tid, slot: Slot, rank: i64, top: bool)
         requires sound { IsSound self.old.threads }
@@ -412,6 +411,7 @@ impl<P: Program> World<P> {
         requires sound { IsSound self.old.threads }
         requires known { IsKnown self.old.threads t.0 }
         requires nowhere { IfSome (slot_of self.old.threads.records t.0) (λ u. IsNowhere u self.old.threads.queues) }
+        requires prio { HasPrio (entry_in self.old.threads t.0) }
         ensures shows { (k : Control P P.State P.Shared) → Shows self.old k → Shows self.new (is_put_waiting t.0 k) }
         ensures sound { IsSound self.new.threads }
         ensures touches { Touches self.old.threads self.new.threads t.0

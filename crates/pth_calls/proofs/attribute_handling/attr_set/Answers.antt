@@ -9,7 +9,7 @@ pub returns-clause-answered : goal.returns-clause-answered
 returns-clause-answered g c =
     let fits : SFits w64 c.args.a = search rules in
     let answer = rw to_z-of_z at c.attr_set.ensures.answer in
-    let shows = rw to_z-of_z at c.attr_set.ensures.shows in
+    let shows = rw to_z-of_z at (c.attr_set.ensures.shows c.requires.whole.sound) in
     decided c.args.w.now c.attr_set.new.self (λ (u : Unit {0}). Int (pos 1))
     (λ s. set_answer s.control.top s.control.threads.known (object s.control c.args.a) c.args.v.now)
     (λ s. sets_value c.args.a c.args.v.now (object s.control c.args.a))

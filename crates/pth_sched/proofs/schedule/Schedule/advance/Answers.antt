@@ -32,4 +32,4 @@ pub loop-self-smaller : goal.loop-self-smaller
 loop-self-smaller g c = made_less g.P.Program.functions _ _ c.loop-self.invariant.keeps.going.whole.sound c.in_ok-part.ensures.stands c.args.to (sym c.loop-self-test.ensures.stops)
 
 pub returns-clause-rests : goal.returns-clause-rests
-returns-clause-rests g c = stop_rests c.args.to _ (sym c.loop-self-test.ensures.stops) c.loop-self.invariant.keeps
+returns-clause-rests g c = stop_rests c.args.to _ (sym c.loop-self-test.ensures.stops) c.loop-self.invariant.keeps c.loop-self.invariant.within c.requires.few

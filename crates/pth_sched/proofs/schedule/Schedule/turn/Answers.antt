@@ -45,7 +45,11 @@ pub loop-self-smaller : goal.loop-self-smaller
 loop-self-smaller g c = made_less g.P.Program.functions _ _ c.loop-self.invariant.keeps.going.whole.sound c.in_ok-part.ensures.stands c.args.to (sym c.loop-self-test.ensures.stops)
 
 pub returns-clause-rests : goal.returns-clause-rests
-returns-clause-rests g c = stop_rests c.args.to _ (sym c.loop-self-test.ensures.stops) c.loop-self.invariant.keeps
+returns-clause-rests g c = stop_rests c.args.to _ (sym c.loop-self-test.ensures.stops) c.loop-self.invariant.keeps c.loop-self.invariant.within c.requires.few
 
 pub returns-in-Some-clause-rests : goal.returns-in-Some-clause-rests
-returns-in-Some-clause-rests g c = on_ok_three c.close.result c.close.ensures.going c.close.ensures.ranks c.close.ensures.gave (λ going ranks gave. record { keeps = record { going = going; ranks = ranks }; closed = λ goes nobody. gave })
+returns-in-Some-clause-rests g c =
+    let within = c.loop-self.invariant.within in
+    let most = c.requires.few in
+    let steps = c.close.ensures.steps in
+    on_ok_three c.close.result c.close.ensures.going c.close.ensures.ranks c.close.ensures.gave (λ going ranks gave. record { keeps = record { going = going; ranks = ranks }; few = omega arith; closed = λ goes nobody. gave })

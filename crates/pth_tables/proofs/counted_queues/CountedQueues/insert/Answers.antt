@@ -25,6 +25,6 @@ invariant_of-self c =
       room = room_with _ c.self.inside.queues c.args.q _ _ _ entered c.self.invariant.room (length-set c.self.inside.heights.items c.args.s.0 _);
       tells = tells_entered _ c.self.inside.queues c.self.inside.raises c.self.inside.heights.items c.self.invariant.tells c.args.q c.args.rank c.args.s.0 _ low nowhere entered
           (ap (set c.self.inside.heights.items c.args.s.0) (wrapping_sub_is w64 c.args.rank c.of.result f g ∙ ap (λ (n : ℤ). int_wrap w64 (c.args.rank -ℤ n)) c.of.ensures));
-      beside = beside_entered c.self.inside.queues _ _ _ c.self.invariant.beside c.queue_of-home.ensures.orderly _ _ _ _ c.args.q c.args.rank c.args.s.0 c.args.top nowhere c.requires.rank entered (rw to_z-of_z at c.enter.ensures.value) c.enter.ensures.room c.enter.ensures.due;
+      beside = beside_entered c.self.inside.queues _ _ _ c.self.invariant.beside c.queue_of-home.ensures.orderly _ _ _ _ c.args.q c.args.rank c.args.s.0 c.args.top nowhere c.requires.rank.ready entered (rw to_z-of_z at c.enter.ensures.value) c.enter.ensures.room c.enter.ensures.due;
       marked = marked_entered c.self.inside.queues _ c.self.inside.mark c.self.invariant.marked c.args.q c.args.rank c.args.s.0 _ nowhere entered c.after_entry-self-inside.ensures.kept c.after_entry-self-inside.ensures.behind;
     }

@@ -20,16 +20,14 @@ returns-clause-answer g c =
 pub returns-clause-shows : goal.returns-clause-shows
 returns-clause-shows g c =
     let is : to_z w64 (of_z w64 c.args.a) ≡ c.args.a = omega (arith, ints) in
-    let whole = rw (← c.self.view_is) at c.requires in
     let o = named (object_of c.self.inside.attributes) c.args.a in
-    rw (← c.self.view_is) (where_set c.set.result c.self.inside.attributes.top (known_of c.self.inside.threads) o c.args.v.now (rw is at c.set.ensures.answer) (rw is at c.set.ensures.changes) (λ some s. rw (slots_same c.self.inside.threads (tables_of c.self.inside.keys) (stacks_of c.self.inside.cleanups) (mutexes_of c.self.inside.mutexes) (locks_of c.self.inside.rw_locks) c.self.inside.ports c.set.new.threads (set_slots c.self.inside.attributes c.set.new.self c.self.inside.threads c.set.new.threads (number c.args.a) c.args.v.now o some s) (set_tids c.self.inside.attributes c.set.new.self c.self.inside.threads c.set.new.threads (number c.args.a) c.args.v.now o some s)) (set_shows _ c.set.new.self c.set.new.threads c.args.a c.args.v.now o refl some s whole.sound)))
+    rw (← c.self.view_is) (λ sound. where_set c.set.result c.self.inside.attributes.top (known_of c.self.inside.threads) o c.args.v.now (rw is at c.set.ensures.answer) (rw is at c.set.ensures.changes) (λ some s. rw (slots_same c.self.inside.threads (tables_of c.self.inside.keys) (stacks_of c.self.inside.cleanups) (mutexes_of c.self.inside.mutexes) (locks_of c.self.inside.rw_locks) c.self.inside.ports c.set.new.threads (set_slots c.self.inside.attributes c.set.new.self c.self.inside.threads c.set.new.threads (number c.args.a) c.args.v.now o some s) (set_tids c.self.inside.attributes c.set.new.self c.self.inside.threads c.set.new.threads (number c.args.a) c.args.v.now o some s)) (set_shows _ c.set.new.self c.set.new.threads c.args.a c.args.v.now o refl some s sound)))
 
 pub returns-clause-frame : goal.returns-clause-frame
 returns-clause-frame g c =
     let is : to_z w64 (of_z w64 c.args.a) ≡ c.args.a = omega (arith, ints) in
-    let whole = rw (← c.self.view_is) at c.requires in
     let o = named (object_of c.self.inside.attributes) c.args.a in
-    rw (← c.self.view_is) (where_set c.set.result c.self.inside.attributes.top (known_of c.self.inside.threads) o c.args.v.now (rw is at c.set.ensures.answer) (rw is at c.set.ensures.changes) (λ some s. rw (slots_same c.self.inside.threads (tables_of c.self.inside.keys) (stacks_of c.self.inside.cleanups) (mutexes_of c.self.inside.mutexes) (locks_of c.self.inside.rw_locks) c.self.inside.ports c.set.new.threads (set_slots c.self.inside.attributes c.set.new.self c.self.inside.threads c.set.new.threads (number c.args.a) c.args.v.now o some s) (set_tids c.self.inside.attributes c.set.new.self c.self.inside.threads c.set.new.threads (number c.args.a) c.args.v.now o some s)) (set_frame _ c.set.new.self c.set.new.threads c.args.a c.args.v.now o some s whole)))
+    rw (← c.self.view_is) (λ whole. where_set c.set.result c.self.inside.attributes.top (known_of c.self.inside.threads) o c.args.v.now (rw is at c.set.ensures.answer) (rw is at c.set.ensures.changes) (λ some s. rw (slots_same c.self.inside.threads (tables_of c.self.inside.keys) (stacks_of c.self.inside.cleanups) (mutexes_of c.self.inside.mutexes) (locks_of c.self.inside.rw_locks) c.self.inside.ports c.set.new.threads (set_slots c.self.inside.attributes c.set.new.self c.self.inside.threads c.set.new.threads (number c.args.a) c.args.v.now o some s) (set_tids c.self.inside.attributes c.set.new.self c.self.inside.threads c.set.new.threads (number c.args.a) c.args.v.now o some s)) (set_frame _ c.set.new.self c.set.new.threads c.args.a c.args.v.now o some s whole)))
 
 pub returns-clause-store : goal.returns-clause-store
 returns-clause-store g c =

@@ -17,7 +17,7 @@ returns-clause-shows g c k sh = rw c.change_at.ensures.same (of_threads _ _ k _ 
 pub returns-clause-sound : goal.returns-clause-sound
 returns-clause-sound g c =
     let threads = ap (λ (k : WorldOf _ _ _). k.threads) c.change_at.ensures.same in
-    subst IsSound (sym threads) (change_sound _ c.requires.sound c.args.t.0 c.args.slot.0 c.requires.at _ c.args.c c.requires.attributes c.change_at.ensures.changes)
+    subst IsSound (sym threads) (change_sound _ c.requires.sound c.args.t.0 c.args.slot.0 c.requires.at _ c.args.c c.change_at.ensures.changes)
 
 pub returns-clause-touches : goal.returns-clause-touches
 returns-clause-touches g c =

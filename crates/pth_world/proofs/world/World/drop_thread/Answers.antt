@@ -43,8 +43,8 @@ returns-clause-others g c i apart =
     ∙ drop_views v.threads _ _ c.slot-slot.result.0 c.remove_at.ensures.removes none i (other_slot c.args.self.now.threads c.args.t.0 c.slot-slot.result.0 c.requires.sound c.slot-slot.ensures.slot i apart) ∙ c.take_out.ensures.touches.others i apart
 
 pub returns-clause-but : goal.returns-clause-but
-returns-clause-but g c rests but =
+returns-clause-but g c but =
     gone_but c.args.self.now _ c.args.t.0 c.slot-slot.result.0 c.slot-slot.ensures.slot (returns-clause-others g c) (search rules) (returns-clause-sound g c) (search rules) (search rules)
     (ap (λ (k : WorldOf _ _ _). k.attributes) c.remove_at.ensures.same ∙ ap (λ (k : WorldOf _ _ _). k.attributes) c.take_out.ensures.same)
     (ap (λ (k : WorldOf _ _ _). k.threads.queues.top) c.remove_at.ensures.same ∙ c.take_out.ensures.touches.top)
-    rests but
+    but

@@ -10,6 +10,7 @@ use Rattle.pth_world.specs.Whole.{View}
 use Rattle.pth_world.specs.Touches.{Touches, view_placed, view_changed}
 use Rattle.pth_world.proofs.Moves.{dead_whole, known_slot, left_nowhere, nowhere_after, two_touches, same_twice, queues_alone, stopped_then, threads_alone, threads_then}
 use Rattle.pth_world.proofs.Ranks.{ranks_dead}
+use Rattle.pth_world.proofs.Waits.{zero_enters}
 use Rattle.pth_world.proofs.world.World.make_dead.Goals as goal
 
 pub put_in-requires-clause-nowhere : goal.put_in-requires-clause-nowhere
@@ -65,3 +66,6 @@ returns-clause-moves g c =
       ranks = ranks_dead c.args.self.now.threads c.stop_running.new.self.threads c.args.t.0 c.requires.known (pos 0) (search rules);
       same = stopped_then t w c.put_in.new.self c.stop_running.new.self (threads_then w c.change-3.new.self c.put_in.new.self changed (threads_alone c.change-3.new.self c.put_in.new.self _ c.put_in.ensures.same)) c.stop_running.ensures.same;
     }
+
+pub put_in-requires-clause-rank : goal.put_in-requires-clause-rank
+put_in-requires-clause-rank g c = zero_enters queue.Dead

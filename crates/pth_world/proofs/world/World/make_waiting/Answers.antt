@@ -4,7 +4,7 @@ use Rattle.pth_model.specs.Changes.{sets, enters, runs_now}
 use Rattle.pth_model.specs.Part.{is_put_waiting}
 use Rattle.pth_world.specs.World.{WorldOf}
 use Rattle.pth_world.specs.Touches.{Touches}
-use Rattle.pth_world.proofs.Moves.{runner_nowhere, runner_known, waits_whole}
+use Rattle.pth_world.proofs.Moves.{runner_nowhere, runner_known, waits_whole, whole_prio}
 use Rattle.pth_world.proofs.Ranks.{ranks_waits}
 use Rattle.pth_world.proofs.Runnable.{runner_apart, stays_touched}
 use Rattle.pth_world.proofs.world.World.make_waiting.Goals as goal
@@ -40,3 +40,6 @@ returns-clause-queues g c = rw c.set_running.ensures.same at c.put_waiting.ensur
 
 pub returns-clause-ranks : goal.returns-clause-ranks
 returns-clause-ranks g c = ranks_waits c.args.self.now.threads c.put_waiting.new.self.threads c.args.t.0 (runner_known c.args.self.now c.args.t.0 c.requires.whole c.requires.runs) (rw c.set_running.ensures.same at c.put_waiting.ensures.queues)
+
+pub put_waiting-requires-clause-prio : goal.put_waiting-requires-clause-prio
+put_waiting-requires-clause-prio g c = rw c.set_running.ensures.same (whole_prio c.args.self.now c.args.t.0 c.requires.whole)

@@ -5,6 +5,7 @@ use Rattle.pth_world.specs.World.{WorldOf}
 use Rattle.pth_world.specs.Touches.{view_placed, view_changed}
 use Rattle.pth_world.proofs.Moves.{moved_whole, known_slot, left_nowhere, nowhere_after, two_touches, same_twice, queues_alone, threads_alone, threads_then}
 use Rattle.pth_world.proofs.Ranks.{ranks_moved_in}
+use Rattle.pth_world.proofs.Waits.{zero_enters}
 use Rattle.pth_world.proofs.world.World.move_to.Goals as goal
 
 pub put_in-requires-clause-nowhere : goal.put_in-requires-clause-nowhere
@@ -35,3 +36,6 @@ returns-clause-moves g c =
       ranks = ranks_moved_in c.args.self.now.threads c.put_in.new.self.threads c.args.t.0 c.requires.known c.args.q (search rules);
       same = threads_then w c.change.new.self c.put_in.new.self (threads_then w c.take_out.new.self c.change.new.self (threads_alone w c.take_out.new.self _ c.take_out.ensures.same) (threads_alone c.take_out.new.self c.change.new.self _ c.change.ensures.same)) (threads_alone c.change.new.self c.put_in.new.self _ c.put_in.ensures.same);
     }
+
+pub put_in-requires-clause-rank : goal.put_in-requires-clause-rank
+put_in-requires-clause-rank g c = zero_enters c.args.q

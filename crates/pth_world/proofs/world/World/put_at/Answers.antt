@@ -1,7 +1,7 @@
 use Rattle.std.proofs.Common.{refl, ap, rules, SFits, w64, to_z-of_z}
 use Rattle.pth_model.specs.Changes.{enters}
 use Rattle.pth_world.proofs.Slots.{low}
-use Rattle.pth_world.proofs.Waits.{queues_in, waits_in, rank_of_entry}
+use Rattle.pth_world.proofs.Waits.{queues_in, waits_in}
 use Rattle.pth_world.proofs.Showing.{of_threads, enter_shows}
 use Rattle.pth_world.proofs.Sound.{enter_sound}
 use Rattle.pth_world.proofs.Views.{enter_touches}
@@ -19,7 +19,7 @@ pub returns-clause-sound : goal.returns-clause-sound
 returns-clause-sound g c =
     let f : SFits w64 c.args.rank = search rules in
     let is = rw (c.queues_mut.ensures.value, to_z-of_z) at c.insert.ensures in
-    enter_sound _ c.requires.sound c.args.t.0 c.args.slot.0 c.requires.at c.insert.new.self.queues c.insert.new.self.waits c.args.q c.args.rank (rw c.requires.at at c.requires.nowhere) (rank_of_entry c.args.rank c.requires.rank) (ap queues_in is)
+    enter_sound _ c.requires.sound c.args.t.0 c.args.slot.0 c.requires.at c.insert.new.self.queues c.insert.new.self.waits c.args.q c.args.rank (rw c.requires.at at c.requires.nowhere) c.requires.rank.taken (ap queues_in is)
 
 pub returns-clause-touches : goal.returns-clause-touches
 returns-clause-touches g c =

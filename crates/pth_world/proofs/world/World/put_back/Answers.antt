@@ -5,7 +5,7 @@ use Rattle.pth_model.specs.Part.{is_put_back}
 use Rattle.pth_world.specs.World.{WorldOf}
 use Rattle.pth_world.specs.Touches.{Touches}
 use Rattle.pth_world.proofs.Slots.{prio_fits}
-use Rattle.pth_world.proofs.Moves.{runner_nowhere, runner_known, back_whole}
+use Rattle.pth_world.proofs.Moves.{runner_nowhere, runner_known, back_whole, whole_prio}
 use Rattle.pth_world.proofs.Ranks.{ranks_back, ready_at}
 use Rattle.pth_world.proofs.Runnable.{among_ready, stays_touched}
 use Rattle.pth_world.proofs.world.World.put_back.Goals as goal
@@ -48,3 +48,6 @@ put_ready_at-requires-clause-at g c = ap (λ (k : WorldOf _ _ _). slot_of k.thre
 
 pub returns-clause-ranks : goal.returns-clause-ranks
 returns-clause-ranks g c = ranks_back c.args.self.now.threads c.put_ready_at.new.self.threads c.args.t.0 (runner_known c.args.self.now c.args.t.0 c.requires.whole c.requires.runs) (returns-clause-queues g c)
+
+pub prio-prio-requires-clause-prio : goal.prio-prio-requires-clause-prio
+prio-prio-requires-clause-prio g c = whole_prio c.args.self.now c.args.t.0 c.requires.whole

@@ -9,6 +9,7 @@ use Rattle.pth_world.specs.Touches.{view_changed, view_placed}
 use Rattle.pth_world.specs.World.{WorldOf}
 use Rattle.pth_world.proofs.Moves.{two_touches}
 use Rattle.pth_world.proofs.Slots.{prio_fits}
+use Rattle.pth_world.proofs.Waits.{prio_enters}
 use Rattle.pth_world.proofs.world.World.put_waiting.Goals as goal
 
 pub returns-clause-shows : goal.returns-clause-shows
@@ -34,3 +35,8 @@ returns-clause-queues g c =
 
 pub put_at-requires-clause-at : goal.put_at-requires-clause-at
 put_at-requires-clause-at g c = ap (λ f. f c.args.t.0) c.change_of.ensures.threads.slots ∙ c.slot-slot.ensures.slot
+
+pub put_at-requires-clause-rank : goal.put_at-requires-clause-rank
+put_at-requires-clause-rank g c =
+    let f : SFits w64 c.prio-prio.result = prio_fits _ c.prio-prio.ensures.low in
+    rw to_z-of_z (prio_enters queue.Waiting _ c.prio-prio.ensures.low)

@@ -9,4 +9,4 @@ pub returns-clause-shows : goal.returns-clause-shows
 returns-clause-shows g c = rw (← c.self.view_is) (λ k sh. scheduler_shows _ _ k _ sh (ap (λ (x : Scheduler). record x { running = option_map number_of c.args.t }) sh.scheduler))
 
 pub returns-clause-but : goal.returns-clause-but
-returns-clause-but g c = rw (← c.self.view_is) (λ u before after runner but. rerun_but _ _ u refl refl refl before after runner but)
+returns-clause-but g c = rw (← c.self.view_is) (λ u before after but. rerun_but _ _ u refl refl refl before after but)

@@ -3,7 +3,8 @@ use Rattle.pth_world.specs.Numbering.{Thread}
 use Rattle.pth_world.specs.Whole.{Whole}
 use Rattle.pth_world.specs.World.{WorldOf}
 use Rattle.pth_world.proofs.Slots.{prio_fits}
-use Rattle.pth_world.proofs.Waits.{queues_in, waits_in}
+use Rattle.pth_queue.specs.declared.queue.Queue.TheVariants as queue
+use Rattle.pth_world.proofs.Waits.{queues_in, waits_in, prio_enters}
 use Rattle.pth_world.proofs.Places.{unused-nowhere}
 use Rattle.pth_base.proofs.Results.{on_err}
 use Rattle.pth_world.proofs.Wholes.{same_whole, spawn_shows, spawn_whole, spawn_others, spawn_queues, spawn_ranks}
@@ -38,7 +39,7 @@ returns-clause-shows g c k sh =
     let enters = rw (c.queues_mut.ensures.value, to_z-of_z, queues, waits) at c.insert.ensures in
     let f : SFits w64 c.args.arg = search rules in
     let is = rw to_z-of_z at c.in_ok-state.ensures in
-    rw c.add.ensures.same (spawn_shows c.args.self.now c.requires.whole c.add.new.self.threads.records c.set.new.self c.insert.new.self.queues c.insert.new.self.waits c.in_ok-t.slot.0 c.args.of c.requires.prio c.requires.cancel _ refl adds has c.set.ensures.long (ap queues_in enters) (ap waits_in enters) g.P.Program.functions c.args.body.0 c.args.arg k (rw is refl) sh)
+    rw c.add.ensures.same (spawn_shows c.args.self.now c.requires.whole c.add.new.self.threads.records c.set.new.self c.insert.new.self.queues c.insert.new.self.waits c.in_ok-t.slot.0 c.args.of c.requires.prio _ refl adds has c.set.ensures.long (ap queues_in enters) (ap waits_in enters) g.P.Program.functions c.args.body.0 c.args.arg k (rw is refl) sh)
 
 pub returns-clause-whole : goal.returns-clause-whole
 returns-clause-whole g c =
@@ -50,7 +51,7 @@ returns-clause-whole g c =
     let prio : SFits w64 c.args.of.prio = prio_fits _ c.requires.prio in
     let waits = ap (λ (k : WorldOf _ _ _). k.threads.waits) c.add.ensures.same in
     let enters = rw (c.queues_mut.ensures.value, to_z-of_z, queues, waits) at c.insert.ensures in
-    rw c.add.ensures.same (spawn_whole c.args.self.now c.requires.whole c.add.new.self.threads.records c.set.new.self c.insert.new.self.queues c.insert.new.self.waits c.in_ok-t.slot.0 c.args.of c.requires.prio c.requires.cancel _ refl adds has c.set.ensures.long (ap queues_in enters) (ap waits_in enters))
+    rw c.add.ensures.same (spawn_whole c.args.self.now c.requires.whole c.add.new.self.threads.records c.set.new.self c.insert.new.self.queues c.insert.new.self.waits c.in_ok-t.slot.0 c.args.of c.requires.prio _ refl adds has c.set.ensures.long (ap queues_in enters) (ap waits_in enters))
 
 pub returns-clause-others : goal.returns-clause-others
 returns-clause-others g c =
@@ -62,7 +63,7 @@ returns-clause-others g c =
     let prio : SFits w64 c.args.of.prio = prio_fits _ c.requires.prio in
     let waits = ap (λ (k : WorldOf _ _ _). k.threads.waits) c.add.ensures.same in
     let enters = rw (c.queues_mut.ensures.value, to_z-of_z, queues, waits) at c.insert.ensures in
-    rw c.add.ensures.same (spawn_others c.args.self.now c.requires.whole c.add.new.self.threads.records c.set.new.self c.insert.new.self.queues c.insert.new.self.waits c.in_ok-t.slot.0 c.args.of c.requires.prio c.requires.cancel _ refl adds has c.set.ensures.long (ap queues_in enters) (ap waits_in enters))
+    rw c.add.ensures.same (spawn_others c.args.self.now c.requires.whole c.add.new.self.threads.records c.set.new.self c.insert.new.self.queues c.insert.new.self.waits c.in_ok-t.slot.0 c.args.of c.requires.prio _ refl adds has c.set.ensures.long (ap queues_in enters) (ap waits_in enters))
 
 pub returns-clause-queues : goal.returns-clause-queues
 returns-clause-queues g c =
@@ -74,7 +75,7 @@ returns-clause-queues g c =
     let prio : SFits w64 c.args.of.prio = prio_fits _ c.requires.prio in
     let waits = ap (λ (k : WorldOf _ _ _). k.threads.waits) c.add.ensures.same in
     let enters = rw (c.queues_mut.ensures.value, to_z-of_z, queues, waits) at c.insert.ensures in
-    rw (c.add.ensures.same, tid) (spawn_queues c.args.self.now c.requires.whole c.add.new.self.threads.records c.set.new.self c.insert.new.self.queues c.insert.new.self.waits c.in_ok-t.slot.0 c.args.of c.requires.prio c.requires.cancel _ refl adds has c.set.ensures.long (ap queues_in enters) (ap waits_in enters))
+    rw (c.add.ensures.same, tid) (spawn_queues c.args.self.now c.requires.whole c.add.new.self.threads.records c.set.new.self c.insert.new.self.queues c.insert.new.self.waits c.in_ok-t.slot.0 c.args.of c.requires.prio _ refl adds has c.set.ensures.long (ap queues_in enters) (ap waits_in enters))
 
 pub returns-clause-ranks : goal.returns-clause-ranks
 returns-clause-ranks g c =
@@ -86,4 +87,9 @@ returns-clause-ranks g c =
     let prio : SFits w64 c.args.of.prio = prio_fits _ c.requires.prio in
     let waits = ap (λ (k : WorldOf _ _ _). k.threads.waits) c.add.ensures.same in
     let enters = rw (c.queues_mut.ensures.value, to_z-of_z, queues, waits) at c.insert.ensures in
-    rw c.add.ensures.same (spawn_ranks c.args.self.now c.requires.whole c.add.new.self.threads.records c.set.new.self c.insert.new.self.queues c.insert.new.self.waits c.in_ok-t.slot.0 c.args.of c.requires.prio c.requires.cancel _ refl adds has c.set.ensures.long (ap queues_in enters) (ap waits_in enters))
+    rw c.add.ensures.same (spawn_ranks c.args.self.now c.requires.whole c.add.new.self.threads.records c.set.new.self c.insert.new.self.queues c.insert.new.self.waits c.in_ok-t.slot.0 c.args.of c.requires.prio _ refl adds has c.set.ensures.long (ap queues_in enters) (ap waits_in enters))
+
+pub insert-requires-clause-rank : goal.insert-requires-clause-rank
+insert-requires-clause-rank g c =
+    let prio : SFits w64 c.args.of.prio = prio_fits _ c.requires.prio in
+    rw to_z-of_z (prio_enters queue.New _ c.requires.prio)
