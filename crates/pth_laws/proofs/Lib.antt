@@ -54,3 +54,4 @@ pub mod NextDue
 pub mod Excludes
 pub mod Traffic
 pub mod OutOfOrder
+pub mod RunLaws

@@ -18,3 +18,4 @@ pub mod Holders
 pub mod Rings
 pub mod Refusals
 pub mod Consistent
+pub mod RunLaws

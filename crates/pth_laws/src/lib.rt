@@ -10,7 +10,10 @@
 //!
 //! Laws of states alone (`states`) say of every run, also of one that a `pth_kill` ended, in which range base priorities are, who has
 //! claims on rings, holds of locks, arrivals at barriers and seats at conditions, and for what threads wait. A call that is refused
-//! changes nothing (`refusals`). `laws` has all that is said of the marks and of the states of every run, for who builds on it.
+//! changes nothing (`refusals`).
+//!
+//! `MeetsRunLaws` (`specs/RunLaws.antt`) states the five laws of marks, and those of the state to which they led, as one record. `laws`
+//! promises it of every run. `Machine::advance`, `Machine::turn` and `play` promise it of the run that they make.
 #![tactic(auto)]
 
 pub mod destructors;

@@ -8,14 +8,11 @@ ghost use Rattle.pth_laws.specs.Clean.{IsClean};
 ghost use Rattle.pth_laws.specs.Exclusive.{Exclusive};
 ghost use Rattle.pth_laws.specs.Initialised.{Initialised};
 ghost use Rattle.pth_laws.specs.InOrder.{InOrder};
-ghost use Rattle.pth_laws.specs.InTime.{InTime};
-ghost use Rattle.pth_laws.specs.Kept.{IsWaitKept};
 ghost use Rattle.pth_laws.specs.Orderly.{Orderly};
+ghost use Rattle.pth_laws.specs.RunLaws.{MeetsRunLaws};
 ghost use Rattle.pth_laws.specs.Tied.{IsTiedTo};
 ghost use Rattle.pth_laws.specs.Valid.{IsValid};
 
-use crate::in_time::every_run_is_in_time;
-use crate::states::every_wait_is_kept;
 use pth_base::program::Program;
 
 /// The marks of every run, wherever it stands, are orderly: a thread that ended ran the handlers that it had pushed and not
@@ -62,28 +59,8 @@ pub fn every_run_is_clean<P: Program>()
     ensures { (g : Given P) (i : ℕ) → (run P.functions g i).turn.outcome ≢ Killed → IsClean (run P.functions g i).state }
 {}
 
-/// What is said of the marks and of the states of every run, of any program and any kernel, wherever the run stands. Who builds on it
-/// calls this for a program, and has it all. `tied`, `valid` and `clean` leave out a run that a `pth_kill` ended.
+/// Every run of every program, with any kernel, meets the laws of runs wherever it stands: those of its marks, and those of the state to
+/// which they led. A crate that builds on them calls this for its program.
 pub fn laws<P: Program>()
-    ensures orderly { (g : Given P) (i : ℕ) → Orderly (run P.functions g i).marks }
-    ensures exclusive { (g : Given P) (i : ℕ) → Exclusive (run P.functions g i).marks }
-    ensures initialised { (g : Given P) (i : ℕ) → Initialised (run P.functions g i).marks }
-    ensures in_order { (g : Given P) (i : ℕ) → InOrder (run P.functions g i).marks }
-    ensures in_time { (g : Given P) (i : ℕ) → InTime (run P.functions g i).marks }
-    ensures tied { (g : Given P) (i : ℕ) → (run P.functions g i).turn.outcome ≢ Killed
-        → IsTiedTo (run P.functions g i).state (run P.functions g i).marks }
-    ensures valid { (g : Given P) (i : ℕ) → (run P.functions g i).turn.outcome ≢ Killed
-        → IsValid (run P.functions g i).state (run P.functions g i).turn }
-    ensures clean { (g : Given P) (i : ℕ) → (run P.functions g i).turn.outcome ≢ Killed
-        → IsClean (run P.functions g i).state }
-    ensures kept { (g : Given P) (i : ℕ) → IsWaitKept (run P.functions g i).state }
-{
-    every_run_is_orderly::<P>();
-    every_run_is_exclusive::<P>();
-    every_run_initialises::<P>();
-    every_run_is_in_order::<P>();
-    every_run_is_in_time::<P>();
-    every_run_is_tied::<P>();
-    every_run_is_clean::<P>();
-    every_wait_is_kept::<P>();
-}
+    ensures { (g : Given P) (i : ℕ) → MeetsRunLaws (run P.functions g i) }
+{}

@@ -26,6 +26,7 @@ use Rattle.pth_player.proofs.Outputs.{no_fault, refused_output, script_accepted,
 use Rattle.pth_streams.proofs.Pieces.{all_of, none_after, part_is_prefix}
 use Rattle.pth_player.proofs.Reading.{read_stood}
 use Rattle.pth_player.proofs.Results.{always, told}
+use Rattle.pth_player.proofs.RunTexts.{shows_runs}
 
 -- a fault other than this one has this status only if memory ran out
 not_status : (f : Fault) (status : ℕ) (old new : Received) → Reports f status old new → (k : ℕ) → k ≢ fault_status f → k ≢ 7 → status ≡ k → ⊥
@@ -357,6 +358,7 @@ module _ (call : TopCall) where
     refuses_input = refuses_input call.old call.new call.status call.err_old call.err_new call.asked r ran ends;
     faults = fails call.old call.new call.status call.err_old call.err_new call.asked r ran ends;
     writes_output = writes_output call.old call.new call.status call.err_old call.err_new call.asked r ran ends;
+    laws = shows_runs call (writes_output call.old call.new call.status call.err_old call.err_new call.asked r ran ends);
     completes = completes call.old call.new call.status call.err_old call.err_new call.asked r ran ends;
     fault_line = tells_fault r ran ends;
   }

@@ -4,5 +4,6 @@ pub mod Driving
 pub mod Outputs
 pub mod Reading
 pub mod Results
+pub mod RunTexts
 pub mod Runs
 pub mod Strides

@@ -1,5 +1,5 @@
 -- The clauses of the top call.
-use Rattle.std.specs.Prelude.{◌≡◌, ◌≢◌, ◌⊎◌, ℕ, List, [], Option, Some, None, IfSome, Result, Ok, Err, IfOk}
+use Rattle.std.specs.Prelude.{◌≡◌, ◌≢◌, ◌⊎◌, ℕ, false, List, [], Option, Some, None, IfSome, Result, Ok, Err, IfOk}
 use Rattle.std.specs.Io.KnownBytes.{Appends}
 use Rattle.pth_streams.specs.Faults.{Rose}
 use Rattle.pth_player.specs.declared.done.Done.{Done}
@@ -10,7 +10,10 @@ use Rattle.pth_print.specs.FaultLines.{fault_line, fault_status}
 use Rattle.pth_print.specs.declared.fault_line.Fault.{Fault}
 use Rattle.pth_print.specs.declared.fault_line.Fault.TheVariants as fault
 use Rattle.pth_kernel.specs.Kernel.{KernelOf}
-use Rattle.pth_line.specs.Script.{Sections}
+use Rattle.pth_line.specs.Script.{Sections, functions_of}
+use Rattle.pth_model.specs.Run.{run, GoesTo}
+use Rattle.pth_model.specs.State.{Given}
+use Rattle.pth_laws.specs.RunLaws.{MeetsRunLaws}
 use Rattle.pth_script.specs.Broken.{IsRefusal}
 use Rattle.pth_text.specs.declared.rule.Breach.{Breach}
 use Rattle.pth_command.specs.CommandLine.{Asked}
@@ -19,6 +22,7 @@ use Rattle.pth_streams.specs.Scene.{Scene}
 use Rattle.pth_player.specs.Objects.{Object, ObjectRead, ObjectRose, ObjectStood, asked_object, content, cut, content_of}
 use Rattle.pth_streams.specs.Pieces.{AppendsPart, AppendsPrefix, IsUnwritten, Received, WritesLine, WritesPiece}
 use Rattle.pth_player.specs.Output.{Output, IsScriptOutput, IsTheOutput, IsRefused, IsTheScript, given_script, outcome_status}
+use Rattle.pth_player.specs.Transcript.{text_of}
 
 -- ---- the parts of the call
 
@@ -180,6 +184,32 @@ pub record WritesOutput (call : TopCall) : Type 0 where
   pub beginning : call.status ≡ 7 → Appends call.old.out.written call.new.out.written [] ⊎ WritesPrefix call
   pub nothing : (call.status ≡ 2) ⊎ ((call.status ≡ 3) ⊎ (call.status ≡ 4)) → IsUnwritten call.old.out call.new.out
 
+-- A text is that of a run: the script stands for what the run is given, and the text shows what the run has told where it stops,
+-- after the steps that are asked for or before. The run meets its laws there. So the marks of which the text has the lines, or with
+-- a summary the counts, are in time, orderly, exclusive, initialised and in order.
+pub record IsTextOfRun (asked : Asked) (script text : List ℕ) : Type 0 where
+  pub given : Given Sections
+  pub meant : IsTheScript given script
+  pub parts : ℕ
+  pub stops : GoesTo functions_of given asked.steps 0 parts
+  pub shown : text ≡ text_of asked (run functions_of given parts)
+  pub laws : MeetsRunLaws (run functions_of given parts)
+
+-- the text of a run of the script that the object read holds was appended in this way: whole, in part, or a beginning
+abbrev pub WritesRun : TopCall → Asked → (Option (List ℕ) → Option (List ℕ) → List ℕ → Type 0) → Type 0
+WritesRun call asked Appended =
+    (bytes : List ℕ) × AreHeld (content call.asked call.old) bytes × (text : List ℕ) × IsTextOfRun asked (cut bytes) text
+    × Appended call.old.out.written call.new.out.written text
+
+-- what was written of a run to `out`, by the status
+pub record ShowsRun (call : TopCall) (asked : Asked) : Type 0 where
+  -- 0, 1, 6: the text of a run
+  pub whole : IsRunStatus call.status → WritesRun call asked Appends
+  -- 5: a beginning of the text of a run, and not the whole
+  pub part : call.status ≡ 5 → WritesRun call asked AppendsPart
+  -- 7: nothing, or a beginning of the text of a run
+  pub beginning : call.status ≡ 7 → Appends call.old.out.written call.new.out.written [] ⊎ WritesRun call asked AppendsPrefix
+
 -- What the counts of faults say. Each stands still or rises by one.
 pub record Completes (call : TopCall) : Type 0 where
   -- if neither that of the object read nor that of `out` rose, the output was written whole, or memory ran out
@@ -215,6 +245,9 @@ pub record Plays (call : TopCall) : Type 0 where
   -- The status, what was written and the fault's line are those of the output for the words and the bytes of the object
   -- read. If the sink failed (5) or memory ended (7), a beginning was written.
   pub writes_output : WritesOutput call
+  -- What was written is the text of a run or a beginning of it, if the words ask for no upgrade, and this run meets the laws of
+  -- runs: its marks are in time, orderly, exclusive, initialised and in order.
+  pub laws : IfSome call.asked (λ asked. asked.upgrade ≡ false → ShowsRun call asked)
   -- if no count rose, the output was written whole, or memory ran out; and how far the counts rose
   pub completes : Completes call
   -- what standard error received

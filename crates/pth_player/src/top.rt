@@ -47,6 +47,9 @@ fn finish<E: Sink>(alloc: Global, ran: Result<Done, Fault>, err: &mut E) -> u8
 /// with a status; the text of the script in version 2, if an upgrade is asked for; or a refusal. With status 0, 1, 2, 3 and 6
 /// exactly the text of this output was written, and the status and the fault's line are the output's. It comes to another status
 /// only if the object read or `out` failed, or memory ran out. `Plays` says this and what else holds by the status, fact by fact.
+///
+/// The text of a run, or the beginning of it that was written, is that of marks which are in time, orderly, exclusive, initialised and in
+/// order (`laws` of `Plays`).
 pub fn play<S: Source, F: Files, O: Sink, E: Sink>(
     alloc: Global,
     words: &Vec<String>,

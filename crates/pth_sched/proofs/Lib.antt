@@ -16,6 +16,7 @@ pub mod Moving
 pub mod Parts
 pub mod Readying
 pub mod Roofs
+pub mod RunLaws
 pub mod Showing
 pub mod Stopping
 pub mod Times

@@ -7,6 +7,7 @@ use Rattle.pth_base.specs.declared.outcome.Outcome.TheVariants.{Running, OutOfMe
 use Rattle.pth_model.specs.State.{Given}
 use Rattle.pth_model.specs.Course.{Course}
 use Rattle.pth_model.specs.Run.{run, GoesUntil, stops_at, stops_or_closed, IsBetween}
+use Rattle.pth_laws.specs.RunLaws.{MeetsMarkLaws, MeetsRunLaws}
 use Rattle.pth_world.specs.Shows.{StandsFor}
 use Rattle.pth_base.specs.Cut.{IsCut}
 use Rattle.pth_sched.specs.MachineOf.{MachineOf, IsGoing, IsRoofed}
@@ -70,6 +71,34 @@ module _ {P S H : Type 0} (f : P → Functions S H) (g : Given P) (to i : ℕ) w
 
   abbrev pub TurnBreaksOff : (old new : List Mark) → Type 0
   TurnBreaksOff old new = BreaksOffBefore f g (stops_or_closed f g to i) i old new
+
+-- ---- the laws of runs
+
+-- The machine stands on the run of what is given, these are all the marks that the run has told so far, and the run meets its laws
+-- there: the marks are in time, orderly, exclusive, initialised and in order, and the state fits them, is clean, and has what its
+-- waits have. A run that a pth_kill ended meets the laws of marks, and its waits have what they have.
+pub record StandsLawfully {P S H : Type 0} (f : P → Functions S H) (g : Given P) (m : MachineOf P S H) (marks : List Mark) : Type 0 where
+  pub part : ℕ
+  pub stands : StandsAt f g part m
+  pub told : marks ≡ (run f g part).marks
+  pub laws : MeetsRunLaws (run f g part)
+
+-- what holds after a call that drove the machine on the run, of all the marks that were told of the run so far
+pub record HasKeptLaws {P S H : Type 0} (f : P → Functions S H) (g : Given P) (m : MachineOf P S H) (marks : List Mark) : Type 0 where
+  -- they meet the laws of marks, also if memory ended
+  pub laws : MeetsMarkLaws marks
+  -- and are a beginning of what the run tells up to some part
+  pub part : ℕ
+  pub rest : List Mark
+  pub beginning : marks ++ rest ≡ (run f g part).marks
+  -- as long as memory lasts the machine stands on the run, and the run meets its laws there
+  pub stands : m.turn.outcome ≢ OutOfMemory → StandsLawfully f g m marks
+
+-- A call that drives a machine from m to v keeps the laws: if the machine stood on a run of which these marks were told before and
+-- then those of `old`, it has kept them after the call. The marks before are those that the caller took out of the list meanwhile.
+abbrev pub KeepsLaws : {P S H : Type 0} → (P → Functions S H) → (m v : MachineOf P S H) → (old new : List Mark) → Type 0
+KeepsLaws {P = P} f m v old new =
+    (g : Given P) (i : ℕ) (before : List Mark) → StandsAt f g i m → before ++ old ≡ (run f g i).marks → HasKeptLaws f g v (before ++ new)
 
 -- the part that comes next is a step
 pub record IsAtStep {P S H : Type 0} (m : MachineOf P S H) : Type 0 where

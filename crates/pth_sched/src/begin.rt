@@ -1,8 +1,9 @@
 //! How a call begins.
 
-ghost use Rattle.std.specs.Prelude.{◌≡◌, ◌≢◌, ℤ, false, Some, IfOk};
+ghost use Rattle.std.specs.Prelude.{◌≡◌, ◌≢◌, ℤ, false, Some, IfOk, OnOk};
 ghost use Rattle.pth_base.specs.declared.call.Call.TheVariants.{Plain, Yield};
 ghost use Rattle.pth_model.specs.Calls.{begun};
+ghost use Rattle.pth_end.specs.Whole.{FullWhole, IsUnblocked};
 ghost use Rattle.pth_waits.specs.Verdicts.{NeverBlocks};
 ghost use Rattle.pth_world.specs.Frame.{Frame, runs_after, yields_after};
 ghost use Rattle.pth_world.specs.Leading.{Goes, StandsWhere};
@@ -101,6 +102,7 @@ pub fn begin<P: Program>(
     requires few { HasNumbers w.old }
     ensures goes { Goes (StandsWhere w.old t.0 false) (begun P.functions t.0 call) w.new marks.old marks.new result }
     ensures frame { IfOk result (λ n. Frame w.old w.new one_of_each (runs_after t.0 n) (yields_after n)) }
+    ensures keeps { OnOk result (IsUnblocked w.old t.0 → FullWhole w.old → FullWhole w.new) }
 {
     match attempt(w, t, &call)? {
         Some(verdict) => carry_out(w, t, call, verdict, marks),

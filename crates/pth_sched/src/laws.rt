@@ -10,7 +10,9 @@ ghost use Rattle.pth_model.specs.Run.{run, GoesTo, TurnsTo, IsBetween};
 ghost use Rattle.pth_model.specs.Part.{Step, next_part};
 ghost use Rattle.pth_model.specs.ThreadEnds.{is_alone};
 ghost use Rattle.pth_sched.specs.MachineOf.{MachineOf};
-ghost use Rattle.pth_sched.specs.Running.{GoesOn, TurnGoesOn};
+ghost use Rattle.pth_sched.specs.Running.{GoesOn, StandsAt, TurnGoesOn};
+ghost use Rattle.pth_world.specs.Whole.{Whole};
+ghost use Rattle.pth_end.specs.Whole.{FullWhole};
 
 use pth_base::program::Program;
 
@@ -44,4 +46,9 @@ pub fn main_ends_last<P: Program>()
 pub fn every_run_stops<P: Program>()
     ensures stops { (g : Given P) (to i : ℕ) → (j : ℕ) × GoesTo P.functions g to i j }
     ensures turns { (g : Given P) (to i : ℕ) → (j : ℕ) × TurnsTo P.functions g to i j }
+{}
+
+/// Where a machine stands on a run, its world is whole. So from there on it may be driven by hand, call by call, and stays so.
+pub fn machines_on_runs_are_whole<P: Program>()
+    ensures { (g : Given P) (i : ℕ) (m : MachineOf P P.State P.Shared) → Whole m.world → StandsAt P.functions g i m → FullWhole m.world }
 {}

@@ -15,7 +15,8 @@ ghost use Rattle.pth_model.specs.Run.{run};
 ghost use Rattle.pth_model.specs.Standing.{Standing};
 ghost use Rattle.pth_threads.specs.Threads.{number_of};
 ghost use Rattle.pth_world.specs.Whole.{Whole};
-ghost use Rattle.pth_sched.specs.Running.{Stands, StandsAt, Makes, MakesPart, GoesOn, BreaksOff, TurnGoesOn, TurnBreaksOff, IsAtStep, IsBetweenTurns};
+ghost use Rattle.pth_end.specs.Whole.{FullWhole};
+ghost use Rattle.pth_sched.specs.Running.{Stands, StandsAt, Makes, MakesPart, GoesOn, BreaksOff, KeepsLaws, TurnGoesOn, TurnBreaksOff, IsAtStep, IsBetweenTurns};
 
 use crate::live::live;
 use crate::schedule::Schedule;
@@ -100,10 +101,14 @@ impl<P: Program> Machine<P> {
 
     /// Makes the next `n` steps, and goes on by the parts after them that are no steps. Fewer steps are made where the run
     /// ends before. After an outcome that ends the run it answers the same again, and tells nothing.
+    ///
+    /// If the machine stood on a run, all marks of the run so far meet the laws of marks after the call, also where memory ended. As
+    /// long as memory lasts the state meets the laws of runs too (`laws`).
     pub fn advance(&mut self, n: u64, marks: &mut Marks) -> Outcome
         requires few { self.old.turn.steps + n ≤ most_steps }
         ensures goes_on { result ≢ Outcome.OutOfMemory → (g : Given P) (i : ℕ) → StandsAt P.functions g i self.old → GoesOn P.functions g (self.old.turn.steps + n) i self.new marks.old marks.new }
         ensures breaks_off { result ≡ Outcome.OutOfMemory → (g : Given P) (i : ℕ) → StandsAt P.functions g i self.old → BreaksOff P.functions g (self.old.turn.steps + n) i marks.old marks.new }
+        ensures laws { KeepsLaws P.functions self.old self.new marks.old marks.new }
         ensures running { (result ≡ Outcome.Running) ↔ ((self.new.turn.steps ≡ self.old.turn.steps + n) × IsAtStep self.new) }
         ensures steps { self.new.turn.steps ≤ self.old.turn.steps + n }
         ensures outcome { result ≡ self.new.turn.outcome }
@@ -123,6 +128,7 @@ impl<P: Program> Machine<P> {
         requires few { self.old.turn.steps + n ≤ most_steps }
         ensures goes_on { result ≢ Outcome.OutOfMemory → (g : Given P) (i : ℕ) → StandsAt P.functions g i self.old → TurnGoesOn P.functions g (self.old.turn.steps + n) i self.new marks.old marks.new }
         ensures breaks_off { result ≡ Outcome.OutOfMemory → (g : Given P) (i : ℕ) → StandsAt P.functions g i self.old → TurnBreaksOff P.functions g (self.old.turn.steps + n) i marks.old marks.new }
+        ensures laws { KeepsLaws P.functions self.old self.new marks.old marks.new }
         ensures running { (result ≡ Outcome.Running) ↔ (((self.new.turn.steps ≡ self.old.turn.steps + n) × IsAtStep self.new) ⊎ IsBetweenTurns self.new) }
         ensures steps { self.new.turn.steps ≤ self.old.turn.steps + n }
         ensures outcome { result ≡ self.new.turn.outcome }
@@ -150,6 +156,7 @@ impl<P: Program> Machine<P> {
         ensures scheduler { OnOk result (self.new.world.scheduler ≡ self.old.world.scheduler) }
         ensures kernel { OnOk result (self.new.world.kernel ≡ self.old.world.kernel) }
         ensures failed { OnErr result (self.new.turn.outcome ≡ Outcome.OutOfMemory) }
+        ensures whole { OnOk result (FullWhole self.old.world → FullWhole self.new.world) }
     {
         let passed = self.schedule.pass(marks);
         self.failed = passed.is_err();
@@ -177,6 +184,7 @@ impl<P: Program> Machine<P> {
         ensures turn { OnOk result (self.new.turn ≡ self.old.turn) }
         ensures nobody { OnOk result (self.new.world.scheduler.running ≡ None) }
         ensures failed { OnErr result (self.new.turn.outcome ≡ Outcome.OutOfMemory) }
+        ensures whole { OnOk result (FullWhole self.old.world → FullWhole self.new.world) }
     {
         let moved = self.schedule.idle(marks);
         self.failed = moved.is_err();

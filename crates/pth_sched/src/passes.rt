@@ -10,6 +10,7 @@ ghost use Rattle.pth_world.specs.Ranks.{greatest_return};
 ghost use Rattle.pth_world.specs.Shows.{Shows, StandsFor};
 ghost use Rattle.pth_world.specs.Sound.{IsKnown};
 ghost use Rattle.pth_world.specs.Whole.{Whole};
+ghost use Rattle.pth_end.specs.Whole.{FullWhole};
 ghost use Rattle.pth_waits.specs.Dormant.{IsDormant, after_now};
 ghost use Rattle.pth_sched.specs.Calm.{AreDormant, Calms, CalmsBut, is_among_waiting};
 ghost use Rattle.pth_sched.specs.Passing.{IsWaiting, OnlyWakes, WaitOnce};
@@ -80,6 +81,7 @@ pub fn pass<P: Program>(
     requires whole { Whole w.old }
     ensures goes { LedTo (StandsFor w.old) (pass P.functions) w.new marks.old marks.new result }
     ensures only_wakes { OnOk result (OnlyWakes w.old w.new) }
+    ensures keeps { OnOk result (FullWhole w.old → FullWhole w.new) }
 {
     room.go_over(w);
     wake_all(w, room.waking(), marks)

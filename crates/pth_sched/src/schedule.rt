@@ -14,6 +14,7 @@ ghost use Rattle.pth_world.specs.Frame.{runs_after};
 ghost use Rattle.pth_world.specs.Leading.{AllAwaitRightly, AwaitsRightly};
 ghost use Rattle.pth_world.specs.Shows.{Shows};
 ghost use Rattle.pth_world.specs.Whole.{Whole};
+ghost use Rattle.pth_end.specs.Whole.{FullWhole};
 ghost use Rattle.pth_sched.specs.MachineOf.{IsGoing, IsRoofed, machine_stops};
 ghost use Rattle.pth_sched.specs.Running.{Stands, StandsAt, Keeps, Rests, Makes, GoesOn, BreaksOff, TurnGoesOn, TurnBreaksOff, IsBetweenTurns};
 
@@ -248,6 +249,7 @@ impl<P: Program> Schedule<P> {
         ensures err { OnErr result ((c : Course P P.State P.Shared) → Stands self.old c
             → IsCut marks.old marks.new (pass P.functions c.state).marks) }
         ensures keeps { OnOk result (Keeps self.new) }
+        ensures whole { OnOk result (FullWhole self.old.world → FullWhole self.new.world) }
         ensures turn { self.new.turn ≡ self.old.turn }
         ensures scheduler { OnOk result (self.new.world.scheduler ≡ self.old.world.scheduler) }
         ensures kernel { OnOk result (self.new.world.kernel ≡ self.old.world.kernel) }
@@ -269,6 +271,7 @@ impl<P: Program> Schedule<P> {
         ensures err { OnErr result ((c : Course P P.State P.Shared) → Stands self.old c
             → IsCut marks.old marks.new (moves_by P.functions c.turn (Some moment) c.state).marks) }
         ensures keeps { OnOk result (Keeps self.new) }
+        ensures whole { OnOk result (FullWhole self.old.world → FullWhole self.new.world) }
         ensures turn { self.new.turn ≡ self.old.turn }
         ensures scheduler { OnOk result (self.new.world.scheduler ≡ self.old.world.scheduler) }
         ensures kernel { OnOk result (self.new.world.kernel ≡ record self.old.world.kernel { now = moment }) }
@@ -295,6 +298,7 @@ impl<P: Program> Schedule<P> {
         ensures err { OnErr result ((c : Course P P.State P.Shared) → Stands self.old c
             → IsCut marks.old marks.new (moves P.functions c.turn c.state).marks) }
         ensures keeps { OnOk result (Keeps self.new) }
+        ensures whole { OnOk result (FullWhole self.old.world → FullWhole self.new.world) }
         ensures turn { self.new.turn ≡ self.old.turn }
         ensures runs { OnOk result (self.new.world.scheduler.running ≡ self.old.world.scheduler.running) }
     {

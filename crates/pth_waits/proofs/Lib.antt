@@ -21,3 +21,4 @@ pub mod Kernels
 pub mod Rounding
 pub mod Standing
 pub mod Undue
+pub mod Room

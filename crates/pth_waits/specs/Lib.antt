@@ -4,3 +4,4 @@ pub mod Rests
 pub mod Verdicts
 pub mod Looking
 pub mod Dormant
+pub mod Room

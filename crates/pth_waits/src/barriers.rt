@@ -1,13 +1,15 @@
 //! Waiting at a barrier: `pth_barrier_reach`.
 
-ghost use Rattle.std.specs.Prelude.{◌≡◌, false, Some, IfOk, OnOk};
+ghost use Rattle.std.specs.Prelude.{◌≡◌, false, Some, IfOk, OnOk, OnErr};
 ghost use Rattle.pth_base.specs.declared.call.Call.TheVariants.{BarrierReach};
-ghost use Rattle.pth_cond.specs.Barriers.{has_passed};
+ghost use Rattle.pth_cond.specs.Barriers.{barriers_of, has_passed};
+ghost use Rattle.pth_end.specs.Whole.{FullWhole, IsUnblocked};
 ghost use Rattle.pth_model.specs.Awaits.{round_in};
 ghost use Rattle.pth_model.specs.Barriers.{arrived_as, barrier_reach};
 ghost use Rattle.pth_model.specs.State.{Control, State};
 ghost use Rattle.pth_model.specs.Verdict.{by_result};
 ghost use Rattle.pth_model.specs.declared.awaits.Awaits.{Awaits as AwaitsOf};
+ghost use Rattle.pth_waits.specs.Room.{AreRoundsOver};
 ghost use Rattle.pth_waits.specs.Verdicts.{Begins};
 ghost use Rattle.pth_world.specs.Frame.{Frame};
 ghost use Rattle.pth_world.specs.Leading.{Tries};
@@ -37,8 +39,8 @@ fn arrived_as(b: i64, arrival: Result<Arrival, Errno>) -> Verdict
 }
 
 /// `pth_barrier_reach` of barrier `b`: the last thread of its round lets the round pass, and any other waits until it has passed.
-/// EINVAL if the barrier is not initialised. `OutOfMemory` if 4,096 arrivals wait there, or if its rounds have no number left: no run
-/// comes to that, which is tested and not proved.
+/// EINVAL if the barrier is not initialised. `OutOfMemory` only if its rounds have no number left: from a whole world there is always
+/// room for the arrival of a thread that no call blocks, since those that wait there are of others, one of each.
 pub(crate) fn reach_barrier<P: Program>(
     w: &mut World<P>,
     t: Tid,
@@ -48,6 +50,7 @@ pub(crate) fn reach_barrier<P: Program>(
     requires runs { w.old.scheduler.running ≡ Some t.0 }
     ensures attempts { IfOk result (λ x. Begins w.old w.new t.0 (BarrierReach b) (λ s. barrier_reach s t.0 b) x) }
     ensures frame { OnOk result (Frame w.old w.new no_numbers w.old.scheduler.running false) }
+    ensures wanted { OnErr result (IsUnblocked w.old t.0 → FullWhole w.old → AreRoundsOver (barriers_of w.old.barriers) b) }
 {
     if !w.barriers().has_room(b) {
         return Err(OutOfMemory);

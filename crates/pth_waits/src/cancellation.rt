@@ -1,11 +1,12 @@
 //! Whether a thread is canceled in the call that blocks it, and `pth_cancel_point`.
 
-ghost use Rattle.std.specs.Prelude.{◌≡◌, ◌≢◌, Some, IfOk};
+ghost use Rattle.std.specs.Prelude.{◌≡◌, ◌≢◌, Some, IfOk, OnOk};
 ghost use Rattle.pth_base.specs.declared.call.Call.TheVariants.{CancelPoint};
 ghost use Rattle.pth_model.specs.Calls.{begun};
 ghost use Rattle.pth_model.specs.Cancellation.{is_point as is_point_wait, is_to_cancel as is_to_cancel_by, may_be_canceled as may_be_canceled_in};
 ghost use Rattle.pth_model.specs.Changes.{entry_of, or_nobody};
 ghost use Rattle.pth_model.specs.State.{Control};
+ghost use Rattle.pth_end.specs.Whole.{FullWhole, IsUnblocked};
 ghost use Rattle.pth_threads.specs.Threads.{tid_at};
 ghost use Rattle.pth_world.specs.Frame.{Frame, runs_after, yields_after};
 ghost use Rattle.pth_world.specs.Leading.{Goes};
@@ -87,6 +88,7 @@ pub fn cancel_point<P: Program>(
     requires call { call.now ≡ CancelPoint }
     ensures goes { Goes (StandsFor w.old) (begun P.functions t.0 call.now) w.new marks.old marks.new result }
     ensures frame { IfOk result (λ n. Frame w.old w.new no_numbers (runs_after t.0 n) (yields_after n)) }
+    ensures keeps { OnOk result (IsUnblocked w.old t.0 → FullWhole w.old → FullWhole w.new) }
 {
     if is_asked(w, t) {
         cancel_within(w, t, Call::CancelPoint, marks)?;

@@ -2,13 +2,14 @@
 //!
 //! `resume` here is not `pth_resume`, which takes back a `pth_suspend` and stands in `thread_control.rt` of `pth_calls`.
 
-ghost use Rattle.std.specs.Prelude.{◌≡◌, Some, IfOk};
+ghost use Rattle.std.specs.Prelude.{◌≡◌, Some, IfOk, OnOk};
 ghost use Rattle.pth_model.specs.Calls.{canceled_by, gone_on, gone_on_where, tried_again};
 ghost use Rattle.pth_model.specs.Cancellation.{may_be_canceled as may_be_canceled_in};
 ghost use Rattle.pth_model.specs.Changes.{blocked_of};
 ghost use Rattle.pth_model.specs.RingWaits.{has_settled, ring_given};
 ghost use Rattle.pth_model.specs.State.{State};
 ghost use Rattle.pth_model.specs.declared.blocked.Blocked.{Blocked as BlockedCall};
+ghost use Rattle.pth_end.specs.Whole.{FullWhole};
 ghost use Rattle.pth_waits.specs.Verdicts.{AwaitsNone};
 ghost use Rattle.pth_world.specs.Frame.{Frame, runs_after, yields_after};
 ghost use Rattle.pth_world.specs.Leading.{Goes, StandsRightly};
@@ -100,6 +101,7 @@ pub fn resume<P: Program>(w: &mut World<P>, t: Tid, marks: &mut Marks) -> Result
     requires runs { w.old.scheduler.running ≡ Some t.0 }
     ensures goes { Goes (StandsRightly w.old t.0) (gone_on P.functions t.0) w.new marks.old marks.new result }
     ensures frame { IfOk result (λ n. Frame w.old w.new no_numbers (runs_after t.0 n) (yields_after n)) }
+    ensures keeps { OnOk result (FullWhole w.old → FullWhole w.new) }
 {
     let Some(blocked) = w.blocked(t) else {
         return Ok(Next::Waits);

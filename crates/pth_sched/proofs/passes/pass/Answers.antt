@@ -7,6 +7,9 @@ use Rattle.pth_world.proofs.Events.{events_whole}
 use Rattle.pth_world.proofs.StateOf.{stands_for_state}
 use Rattle.pth_sched.specs.Passing.{WaitOnce}
 use Rattle.pth_sched.proofs.Waking.{to_wake_once, once_seen, pass_leads, pass_cut, wakes_seen, wakes_then}
+use Rattle.pth_model.specs.Pass.{pass}
+use Rattle.pth_laws.proofs.Consistent.{consistent_passed}
+use Rattle.pth_end.proofs.Wholes.{led_whole}
 use Rattle.pth_sched.proofs.passes.pass.Goals as goal
 
 pub wake_all-requires-clause-whole : goal.wake_all-requires-clause-whole
@@ -28,3 +31,9 @@ returns-clause-goes g c =
 
 pub returns-clause-only_wakes : goal.returns-clause-only_wakes
 returns-clause-only_wakes g c = on_ok_weaker c.wake_all.result (wakes_then _ _ _ (wakes_seen _ _ c.requires.whole c.go_over.ensures.made c.go_over.ensures.same)) c.wake_all.ensures.only_wakes
+
+pub returns-clause-keeps : goal.returns-clause-keeps
+returns-clause-keeps g c =
+    let f = g.P.Program.functions in
+    let w = c.args.w.now in
+    led_whole w c.wake_all.new.w (pass f) _ _ c.wake_all.result c.requires.whole (on_ok_weaker c.wake_all.result (λ wakes. wakes.whole) (returns-clause-only_wakes g c)) (returns-clause-goes g c) (λ waits. consistent_passed f (state_of w) waits)

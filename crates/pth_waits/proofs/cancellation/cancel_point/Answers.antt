@@ -1,4 +1,4 @@
-use Rattle.std.proofs.Common.{◌∙◌, pos, sym, refl}
+use Rattle.std.proofs.Common.{◌∙◌, Ok, pos, negsuc, sym, refl, rules}
 use Rattle.std.proofs.lemmas.Result.{err_from_is_err_and}
 use Rattle.pth_base.specs.declared.answer.Answer.TheVariants.{Int}
 use Rattle.pth_base.specs.declared.mark.Mark.TheVariants.{Answered}
@@ -6,6 +6,9 @@ use Rattle.pth_world.proofs.Frames.{still_frame}
 use Rattle.pth_end.proofs.Framing.{done_frame, said_goes}
 use Rattle.pth_waits.proofs.Canceling.{point_ends, point_says, quiet_point}
 use Rattle.pth_world.specs.Numbering.{no_numbers}
+use Rattle.pth_model.specs.declared.next.Next.TheVariants.{Ended}
+use Rattle.pth_world.specs.Frame.{runs_after, yields_after}
+use Rattle.pth_end.proofs.Keeping.{begun_goes_whole}
 use Rattle.pth_waits.proofs.cancellation.cancel_point.Goals as goal
 
 pub returns-in_err-cancel_within-clause-goes : goal.returns-in_err-cancel_within-clause-goes
@@ -33,3 +36,11 @@ returns-clause-goes g c =
 
 pub returns-clause-frame : goal.returns-clause-frame
 returns-clause-frame g c = done_frame c.args.w.now c.args.w.now c.args.t.0 c.done.result _ c.done.ensures.next (still_frame no_numbers c.args.w.now _ c.requires.runs c.requires.whole)
+
+pub returns-then-is_asked-clause-keeps : goal.returns-then-is_asked-clause-keeps
+returns-then-is_asked-clause-keeps g c =
+    begun_goes_whole g.P.Program.functions c.args.w.now c.cancel_within.new.w c.args.t.0 c.requires.whole c.requires.runs c.args.call.now no_numbers (runs_after c.args.t.0) yields_after _ _ (Ok (Ended (negsuc 0))) (search rules) (returns-then-is_asked-clause-goes g c)
+
+pub returns-clause-keeps : goal.returns-clause-keeps
+returns-clause-keeps g c =
+    begun_goes_whole g.P.Program.functions c.args.w.now c.args.w.now c.args.t.0 c.requires.whole c.requires.runs c.args.call.now no_numbers (runs_after c.args.t.0) yields_after _ _ c.done.result (returns-clause-frame g c) (returns-clause-goes g c)

@@ -9,6 +9,9 @@ use Rattle.pth_world.specs.Shows.{StandsFor}
 use Rattle.pth_waits.proofs.Attempted.{unawaited}
 use Rattle.pth_waits.proofs.Canceling.{by_other}
 use Rattle.pth_waits.proofs.Carried.{goes_as}
+use Rattle.pth_world.specs.Frame.{runs_after, yields_after}
+use Rattle.pth_world.specs.Numbering.{no_numbers}
+use Rattle.pth_end.proofs.Keeping.{gone_on_whole}
 use Rattle.pth_waits.proofs.resume.resume.Goals as goal
 
 -- no call blocks the thread
@@ -50,12 +53,22 @@ returns-in_default-call g c =
     let has : (s : State _ _ _) → StandsFor w s → blocked_of s.control t ≡ Some b = λ s st. sym (c.blocked.ensures.blocked s.control st.control) ∙ ap (λ o. option_copied o) c.in-Some.is in
     let other : is_await b.call ≡ false = unawaited b.call c.in_default-call.not-CondAwait in
     let last = λ (s : State _ _ _). gone_on_where f t (may_be_canceled s.control t) s in
+    let goes = goes_as (StandsRightly w t) (StandsRightly w t) last (gone_on f t) _ _ _ _
+        (λ s st. (s, st, sym (ap (λ o. gone_on_by f t o s) (has s st.0) ∙ by_other f t b.call b.awaits other s))) c.resume_call.ensures.goes in
     record {
-      goes = goes_as (StandsRightly w t) (StandsRightly w t) last (gone_on f t) _ _ _ _
-          (λ s st. (s, st, sym (ap (λ o. gone_on_by f t o s) (has s st.0) ∙ by_other f t b.call b.awaits other s))) c.resume_call.ensures.goes;
+      goes = goes;
       frame = c.resume_call.ensures.frame;
+      keeps = gone_on_whole f w c.resume_call.new.w t c.requires.whole c.requires.runs no_numbers (runs_after t) yields_after _ _ c.resume_call.result c.resume_call.ensures.frame goes;
     }
 
 pub resume_call-requires-clause-other : goal.resume_call-requires-clause-other
 resume_call-requires-clause-other g c k sh =
     ap is_awaiting (sym (c.blocked.ensures.blocked k sh) ∙ ap (λ o. option_copied o) c.in-Some.is) ∙ unawaited c.in-Some.blocked.now.call c.in_default-call.not-CondAwait
+
+-- no call blocks it: nothing changes
+pub returns-in_default-clause-keeps : goal.returns-in_default-clause-keeps
+returns-in_default-clause-keeps g c = λ full. full
+
+pub returns-in-CondAwait-clause-keeps : goal.returns-in-CondAwait-clause-keeps
+returns-in-CondAwait-clause-keeps g c =
+    gone_on_whole g.P.Program.functions c.args.w.now c.resume_await.new.w c.args.t.0 c.requires.whole c.requires.runs no_numbers (runs_after c.args.t.0) yields_after _ _ c.resume_await.result c.resume_await.ensures.frame (returns-in-CondAwait-clause-goes g c)

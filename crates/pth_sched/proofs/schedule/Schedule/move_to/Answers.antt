@@ -3,6 +3,9 @@ use Rattle.std.proofs.lemmas.Result.{err_from_is_err_and, on_ok_weaker, on_err_w
 use Rattle.pth_base.proofs.Cuts.{cut_none}
 use Rattle.pth_sched.specs.Running.{Stands, Keeps}
 use Rattle.pth_sched.proofs.Moving.{moved_keeps, moved_stands, move_makes, move_cut}
+use Rattle.pth_end.specs.Whole.{FullWhole}
+use Rattle.pth_end.proofs.Wholes.{kernel_whole}
+use Rattle.pth_sched.specs.MachineOf.{MachineOf}
 use Rattle.pth_sched.proofs.schedule.Schedule.move_to.Goals as goal
 
 pub pass-requires : goal.pass-requires
@@ -28,3 +31,7 @@ returns-clause-err g c =
     let inside = subst (λ m. Stands m x) (sym c.self.view_is) st in
     let moved = moved_stands c.args.moment x _ _ refl c.set_time.ensures.shows (ap (λ w. w.store) c.set_time.ensures.same) inside in
     move_cut c.args.moment x g.P.Program.functions _ _ _ (c.in_ok-push.ensures.ok) (cut _ moved)) c.pass.ensures.err
+
+pub returns-clause-whole : goal.returns-clause-whole
+returns-clause-whole g c =
+    on_ok_weaker c.pass.result (λ passed full. passed (kernel_whole _ _ _ c.set_time.ensures.whole c.set_time.ensures.same (subst (λ (m : MachineOf _ _ _). FullWhole m.world) (sym c.self.view_is) full))) c.pass.ensures.whole
