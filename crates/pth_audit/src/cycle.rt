@@ -5,7 +5,7 @@ ghost use Rattle.pth_audit.specs.Blocking.{wanted, blocks_on, along, IsBack, IsF
 ghost use Rattle.pth_model.specs.State.{State};
 ghost use Rattle.pth_threads.specs.Threads.{number_of};
 ghost use Rattle.pth_world.specs.Shows.{StandsFor};
-ghost use Rattle.pth_world.specs.Whole.{Whole};
+ghost use Rattle.pth_world.specs.WellFormed.{WellFormed};
 
 use crate::tids::Tids;
 use pth_base::ids::Tid;
@@ -28,7 +28,7 @@ fn wanted(awaited: Awaited) -> Option<i64>
 
 // The other thread that has the mutex which a thread wants.
 fn blocks_on<P: Program>(w: &World<P>, t: Tid) -> Option<Tid>
-    requires { Whole w.now }
+    requires { WellFormed w.now }
     ensures { (s : State P P.State P.Shared) → StandsFor w.now s → option_map number_of result ≡ blocks_on s t.0 }
 {
     match w.mutex_owner(wanted(w.awaited(t))?) {
@@ -39,7 +39,7 @@ fn blocks_on<P: Program>(w: &World<P>, t: Tid) -> Option<Tid>
 
 // After how many steps along who blocks on whom a thread is reached again, none if not within so many.
 fn steps_back<P: Program>(w: &World<P>, t: Tid, most: usize) -> Option<usize>
-    requires { Whole w.now }
+    requires { WellFormed w.now }
     ensures { (s : State P P.State P.Shared) → StandsFor w.now s → IsBack (blocks_on s) most t.0 result }
 {
     let mut at = t;
@@ -55,7 +55,7 @@ fn steps_back<P: Program>(w: &World<P>, t: Tid, most: usize) -> Option<usize>
 
 // The threads along so many steps, from a thread on.
 fn along<P: Program>(alloc: Global, w: &World<P>, t: Tid, steps: usize) -> Result<Tids, OutOfMemory>
-    requires { Whole w.now }
+    requires { WellFormed w.now }
     ensures { IfOk result (λ ts. (s : State P P.State P.Shared) → StandsFor w.now s → along (blocks_on s) steps t.0 ≡ Some t.0
         → (length ts ≡ steps) × ((k : ℕ) → k < steps → along (blocks_on s) k t.0 ≡ Some (get_or (map number_of ts) k 0))) }
 {
@@ -76,7 +76,7 @@ fn along<P: Program>(alloc: Global, w: &World<P>, t: Tid, steps: usize) -> Resul
 /// can go on unless another thread cancels or aborts one of them. Of several circles it is the one with the least thread, from that
 /// thread on. pth(3) has no call for it.
 pub fn cycle<P: Program>(alloc: Global, w: &World<P>) -> Result<Option<Tids>, OutOfMemory>
-    requires { Whole w.now }
+    requires { WellFormed w.now }
     ensures { IfOk result (λ circle. (s : State P P.State P.Shared) → StandsFor w.now s → IsFirstCircle (blocks_on s) circle) }
 {
     let tids = w.threads().tids(alloc)?;

@@ -14,7 +14,7 @@ use Rattle.pth_world.proofs.SettingValues.{objects_frame}
 use Rattle.pth_world.specs.Frame.{Frame}
 use Rattle.pth_world.specs.Ranks.{KeepsRanks}
 use Rattle.pth_world.specs.Numbering.{Thread, Object, Event, Port, Numbers, no_numbers, one_of}
-use Rattle.pth_world.specs.Whole.{Whole}
+use Rattle.pth_world.specs.WellFormed.{WellFormed}
 use Rattle.pth_world.specs.World.{WorldOf}
 
 -- one of two
@@ -34,7 +34,7 @@ pub runs_if : (b : Bool) (t u : ℕ) (r : Option ℕ) → r ≡ Some t → u ≢
 runs_if true t u r is other = runs_still t u r is other
 runs_if false t u r is other = is
 
-module _ {P S H : Type 0} (w : WorldOf P S H) (whole : Whole w) where
+module _ {P S H : Type 0} (w : WorldOf P S H) (whole : WellFormed w) where
   -- the rings changed, or not
   pub rings_frame : {A E : Type 0} (n : Numbers) (x : RingsOf) (now : Events) (q : Result A E) → OnOk q (events_of x ≡ now) → OnErr q (x ≡ w.events) → now.made ≤ w.events.made + n Event → Frame w (record w { events = x }) n w.scheduler.running false
   rings_frame n x now (Ok y) changed refused few = events_frame w x n whole (let is = ap (λ (k : Events). k.made) changed in omega arith)
@@ -50,7 +50,7 @@ module _ {P S H : Type 0} (w : WorldOf P S H) (whole : Whole w) where
   object_made_frame v same made top = subst (λ (z : WorldOf P S H). Frame w z (one_of Object) w.scheduler.running false) (sym same) (objects_frame w v.attributes (one_of Object) whole top (let is = made in omega arith))
 
 -- the kernel changed alone
-pub kernel_frame : {P S H : Type 0} (w : WorldOf P S H) (x : KernelOf) → Whole w → Frame w (record w { kernel = x }) no_numbers w.scheduler.running false
+pub kernel_frame : {P S H : Type 0} (w : WorldOf P S H) (x : KernelOf) → WellFormed w → Frame w (record w { kernel = x }) no_numbers w.scheduler.running false
 kernel_frame w x whole = record {
   whole = kernel_whole w x whole;
   runs = refl;
@@ -60,10 +60,10 @@ kernel_frame w x whole = record {
 }
 
 -- new threads are favoured, or not
-pub favoured_frame : {P S H : Type 0} (w v : WorldOf P S H) (on : Bool) → Whole v → v ≡ record w { scheduler = record w.scheduler { favour_new = on } } → Frame w v no_numbers w.scheduler.running false
+pub favoured_frame : {P S H : Type 0} (w v : WorldOf P S H) (on : Bool) → WellFormed v → v ≡ record w { scheduler = record w.scheduler { favour_new = on } } → Frame w v no_numbers w.scheduler.running false
 favoured_frame {P} {S} {H} w v on whole same =
     subst (λ (z : WorldOf P S H). Frame w z no_numbers w.scheduler.running false) (sym same) (record {
-      whole = subst (λ (z : WorldOf P S H). Whole z) same whole;
+      whole = subst (λ (z : WorldOf P S H). WellFormed z) same whole;
       runs = refl;
       made = gives_none no_numbers w (record w { scheduler = record w.scheduler { favour_new = on } }) (λ k. refl);
       ranks = ranks_none w.threads;
@@ -71,7 +71,7 @@ favoured_frame {P} {S} {H} w v on whole same =
     })
 
 -- a thread was made
-pub spawned_frame : {P S H : Type 0} (w v : WorldOf P S H) (r : Option ℕ) → w.scheduler.running ≡ r → Whole v → v.threads.records.made ≡ w.threads.records.made + 1 → KeepsRanks 1 w.threads v.threads → v ≡ record w { threads = v.threads } → Frame w v (one_of Thread) r false
+pub spawned_frame : {P S H : Type 0} (w v : WorldOf P S H) (r : Option ℕ) → w.scheduler.running ≡ r → WellFormed v → v.threads.records.made ≡ w.threads.records.made + 1 → KeepsRanks 1 w.threads v.threads → v ≡ record w { threads = v.threads } → Frame w v (one_of Thread) r false
 spawned_frame {P} {S} {H} w v r is whole made ranks same = record {
   whole = whole;
   runs = ap (λ (z : WorldOf P S H). z.scheduler.running) same ∙ is;

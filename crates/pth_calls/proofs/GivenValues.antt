@@ -10,7 +10,7 @@ use Rattle.pth_threads.specs.declared.attribute.Attribute.TheVariants.{Free, Bou
 use Rattle.pth_threads.specs.declared.entry.Entry.{Entry}
 use Rattle.pth_threads.specs.declared.entry.NewThread.{NewThread}
 use Rattle.pth_world.specs.Sound.{IsPrio, HasPrio}
-use Rattle.pth_world.specs.Whole.{Whole}
+use Rattle.pth_world.specs.WellFormed.{WellFormed}
 use Rattle.pth_world.specs.World.{WorldOf, entry_in}
 use Rattle.pth_world.proofs.Moves.{whole_prio}
 
@@ -23,7 +23,7 @@ of_object top most x set = record { low = (let h = set.prio.low in omega (arith,
 same_ok : (x y : NewThread) → IsPrio y.prio → ◌≡◌ {A = Result NewThread Errno} (Ok x) (Ok y) → IsPrio x.prio
 same_ok x y may is = let same : y ≡ x = cc in subst HasItsPrio same may
 
-pub given_prio : {P S H : Type 0} (top : ℕ) → top ≤ 20 → (w : WorldOf P S H) (o : Option Attribute) (q : Result NewThread Errno) → Whole w → q ≡ values_answer (known_of w.threads.records) o → ((x : NewThread) → o ≡ Some (Free x) → AreSet top x) → IfOk q (λ of. IsPrio of.prio)
+pub given_prio : {P S H : Type 0} (top : ℕ) → top ≤ 20 → (w : WorldOf P S H) (o : Option Attribute) (q : Result NewThread Errno) → WellFormed w → q ≡ values_answer (known_of w.threads.records) o → ((x : NewThread) → o ≡ Some (Free x) → AreSet top x) → IfOk q (λ of. IsPrio of.prio)
 given_prio top most w o (Err e) whole is set = tt
 given_prio top most w None (Ok x) whole is set = absurd (cc is)
 given_prio top most w (Some (Free y)) (Ok x) whole is set = same_ok x y (of_object top most y (set y refl)) is

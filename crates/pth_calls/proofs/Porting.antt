@@ -23,7 +23,7 @@ use Rattle.pth_world.specs.Frame.{Frame}
 use Rattle.pth_world.specs.Leading.{IsQuiet, IsTold}
 use Rattle.pth_world.specs.Numbering.{Thread, Object, Event, Port, one_of}
 use Rattle.pth_world.specs.Store.{store_of}
-use Rattle.pth_world.specs.Whole.{Whole}
+use Rattle.pth_world.specs.WellFormed.{WellFormed}
 use Rattle.pth_world.specs.World.{WorldOf}
 use Rattle.pth_end.specs.Saying.{SaysRefusal}
 use Rattle.pth_end.proofs.Acting.{done_answered, error_answered}
@@ -72,7 +72,7 @@ module _ {P S H : Type 0} (w : WorldOf P S H) (x : PortsOf) (t : Tid) where
   destroy_refused p e answers same = port_refused w x t (call.PortDestroy p) (λ y. port_destroy_answer y.mail p) done e (sym (error_answered _ e answers)) refl same
 
   -- a port was made
-  pub created_frame : (name : Option (List ℕ)) (r : Option ℕ) → names_of x ≡ port_added name (names_of w.store.ports) → w.scheduler.running ≡ r → Whole w → Frame w (ported w x) (one_of Port) r false
+  pub created_frame : (name : Option (List ℕ)) (r : Option ℕ) → names_of x ≡ port_added name (names_of w.store.ports) → w.scheduler.running ≡ r → WellFormed w → Frame w (ported w x) (one_of Port) r false
   created_frame name r more runs whole = record {
     whole = stored_whole w (record w.store { ports = x }) (λ u dead h. nothing_ported (store_of w.store) u (names_of x) (mail_of x) h) whole;
     runs = runs;

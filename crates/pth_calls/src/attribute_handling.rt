@@ -10,7 +10,7 @@ ghost use Rattle.pth_model.specs.State.{State};
 ghost use Rattle.pth_world.specs.Frame.{Frame};
 ghost use Rattle.pth_world.specs.Leading.{IsAnswered, IsQuiet};
 ghost use Rattle.pth_world.specs.Numbering.{HasNumbers, no_numbers, Object, one_of};
-ghost use Rattle.pth_world.specs.Whole.{Whole};
+ghost use Rattle.pth_world.specs.WellFormed.{WellFormed};
 
 use pth_base::answer::Answer;
 use pth_base::attr::{AttrField, AttrValue};
@@ -39,7 +39,7 @@ fn value_of(v: AttrValue) -> Answer
 
 // pth_attr_new: an object with the first values.
 fn attr_new<P: Program>(w: &mut World<P>) -> Result<Answer, OutOfMemory>
-    requires whole { Whole w.old }
+    requires whole { WellFormed w.old }
     requires few { HasNumbers w.old }
     ensures answered { IfOk result (λ a. IsAnswered w.old w.new a (λ (s : State P P.State P.Shared). (new_row s).begin)) }
     ensures frame { OnOk result (Frame w.old w.new (one_of Object) w.old.scheduler.running false) }
@@ -52,7 +52,7 @@ fn attr_new<P: Program>(w: &mut World<P>) -> Result<Answer, OutOfMemory>
 
 // pth_attr_of: an object that is bound to a thread.
 fn attr_of<P: Program>(w: &mut World<P>, n: i64) -> Result<Answer, OutOfMemory>
-    requires whole { Whole w.old }
+    requires whole { WellFormed w.old }
     requires few { HasNumbers w.old }
     ensures answered { IfOk result (λ a. IsAnswered w.old w.new a (λ (s : State P P.State P.Shared). (of_row s n).begin)) }
     ensures frame { OnOk result (Frame w.old w.new (one_of Object) w.old.scheduler.running false) }
@@ -69,7 +69,7 @@ fn attr_of<P: Program>(w: &mut World<P>, n: i64) -> Result<Answer, OutOfMemory>
 
 // pth_attr_init: an object has the first values again.
 fn attr_init<P: Program>(w: &mut World<P>, a: i64) -> Answer
-    requires whole { Whole w.old }
+    requires whole { WellFormed w.old }
     ensures answered { IsAnswered w.old w.new result (λ (s : State P P.State P.Shared). (init_row s a).begin) }
     ensures frame { Frame w.old w.new no_numbers w.old.scheduler.running false }
 {
@@ -78,7 +78,7 @@ fn attr_init<P: Program>(w: &mut World<P>, a: i64) -> Answer
 
 // pth_attr_set: a field of an object is set, or of the thread to which it is bound.
 fn attr_set<P: Program>(w: &mut World<P>, a: i64, v: &AttrValue) -> Answer
-    requires whole { Whole w.old }
+    requires whole { WellFormed w.old }
     ensures answered { IsAnswered w.old w.new result (λ (s : State P P.State P.Shared). (set_row s a v.now).begin) }
     ensures frame { Frame w.old w.new no_numbers w.old.scheduler.running false }
 {
@@ -87,7 +87,7 @@ fn attr_set<P: Program>(w: &mut World<P>, a: i64, v: &AttrValue) -> Answer
 
 // pth_attr_get: a field of an object, or of the thread to which it is bound.
 fn attr_get<P: Program>(w: &World<P>, a: i64, field: AttrField) -> Answer
-    requires whole { Whole w.now }
+    requires whole { WellFormed w.now }
     ensures { IsAnswered w.now w.now result (λ (s : State P P.State P.Shared). (get_row s a field).begin) }
 {
     match w.attrs().get(a, field, w.threads()) {
@@ -98,7 +98,7 @@ fn attr_get<P: Program>(w: &World<P>, a: i64, field: AttrField) -> Answer
 
 // pth_attr_destroy: an object is gone.
 fn attr_destroy<P: Program>(w: &mut World<P>, a: i64) -> Answer
-    requires whole { Whole w.old }
+    requires whole { WellFormed w.old }
     ensures answered { IsAnswered w.old w.new result (λ (s : State P P.State P.Shared). (destroy_row s a).begin) }
     ensures frame { Frame w.old w.new no_numbers w.old.scheduler.running false }
 {
@@ -111,7 +111,7 @@ pub(crate) fn answer_attributes<P: Program>(
     t: Tid,
     call: &Call,
 ) -> Result<Answer, OutOfMemory>
-    requires whole { Whole w.old }
+    requires whole { WellFormed w.old }
     requires runs { w.old.scheduler.running ≡ Some t.0 }
     requires few { HasNumbers w.old }
     requires attributes { facility_of call.now ≡ Some facility.Attributes }

@@ -11,7 +11,7 @@ ghost use Rattle.pth_model.specs.State.{State};
 ghost use Rattle.pth_world.specs.Frame.{Frame};
 ghost use Rattle.pth_world.specs.Leading.{IsAnswered, IsQuiet};
 ghost use Rattle.pth_world.specs.Numbering.{no_numbers};
-ghost use Rattle.pth_world.specs.Whole.{Whole};
+ghost use Rattle.pth_world.specs.WellFormed.{WellFormed};
 
 use pth_base::answer::Answer;
 use pth_base::call::Call;
@@ -23,7 +23,7 @@ use pth_world::world::World;
 
 // pth_barrier_init: a barrier lets so many threads pass together.
 fn init_barrier<P: Program>(w: &mut World<P>, b: i64, n: i64) -> Result<Answer, OutOfMemory>
-    requires whole { Whole w.old }
+    requires whole { WellFormed w.old }
     ensures answered { IfOk result (λ a. IsAnswered w.old w.new a (λ (s : State P P.State P.Shared). (init_row s b n).begin)) }
     ensures frame { OnOk result (Frame w.old w.new no_numbers w.old.scheduler.running false) }
 {
@@ -39,7 +39,7 @@ pub(crate) fn answer_barriers<P: Program>(
     t: Tid,
     call: &Call,
 ) -> Result<Answer, OutOfMemory>
-    requires whole { Whole w.old }
+    requires whole { WellFormed w.old }
     requires runs { w.old.scheduler.running ≡ Some t.0 }
     requires barriers { facility_of call.now ≡ Some facility.Barriers }
     requires plain { is_plain call.now ≡ true }

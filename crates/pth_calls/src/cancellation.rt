@@ -6,7 +6,7 @@ ghost use Rattle.pth_base.specs.declared.call.Call.TheVariants.{Abort, Cancel};
 ghost use Rattle.pth_base.specs.declared.facility.Facility.TheVariants as facility;
 ghost use Rattle.pth_base.specs.declared.mark.Mark.TheVariants.{Answered};
 ghost use Rattle.pth_calls.specs.Plain.{is_plain};
-ghost use Rattle.pth_end.specs.Whole.{FullWhole, IsUnblocked};
+ghost use Rattle.pth_end.specs.Whole.{Whole, IsUnblocked};
 ghost use Rattle.pth_model.specs.Calls.{begun};
 ghost use Rattle.pth_model.specs.Cancellation.{abort as abort_row, aborts, cancel as cancel_row, cancel_state as cancel_state_row, ends_or_asks, is_asynchronous as is_asynchronous_state};
 ghost use Rattle.pth_model.specs.Ending.{other_than};
@@ -21,7 +21,7 @@ ghost use Rattle.pth_world.specs.Leading.{Goes, LedTo, IsAnswered, IsQuiet};
 ghost use Rattle.pth_world.specs.Numbering.{no_numbers};
 ghost use Rattle.pth_world.specs.Shows.{StandsFor};
 ghost use Rattle.pth_world.specs.Sound.{IsAlive, IsKnown};
-ghost use Rattle.pth_world.specs.Whole.{Whole, IsIn};
+ghost use Rattle.pth_world.specs.WellFormed.{WellFormed, IsIn};
 
 use pth_base::answer::Answer;
 use pth_base::call::Call;
@@ -50,7 +50,7 @@ fn cancel_state_of(n: i64) -> Option<u8>
 
 // pth_cancel_state: the state until now. Another one is set, but for 0.
 fn set_cancel_state<P: Program>(w: &mut World<P>, t: Tid, n: i64) -> Answer
-    requires whole { Whole w.old }
+    requires whole { WellFormed w.old }
     requires runs { w.old.scheduler.running ≡ Some t.0 }
     ensures answered { IsAnswered w.old w.new result (λ (s : State P P.State P.Shared). (cancel_state_row s t.0 n).begin) }
     ensures frame { Frame w.old w.new no_numbers (Some t.0) false }
@@ -69,7 +69,7 @@ fn set_cancel_state<P: Program>(w: &mut World<P>, t: Tid, n: i64) -> Answer
 
 /// The answer of a call of cancellation that neither blocks its thread nor gives up control, and that ends nothing.
 pub(crate) fn answer_cancellation<P: Program>(w: &mut World<P>, t: Tid, call: &Call) -> Answer
-    requires whole { Whole w.old }
+    requires whole { WellFormed w.old }
     requires runs { w.old.scheduler.running ≡ Some t.0 }
     requires plain { is_plain call.now ≡ true }
     requires cancellation { facility_of call.now ≡ Some facility.Cancellation }
@@ -91,7 +91,7 @@ fn end_or_ask<P: Program>(
     cancel: u8,
     marks: &mut Marks,
 ) -> Result<(), OutOfMemory>
-    requires whole { Whole w.old }
+    requires whole { WellFormed w.old }
     requires alive { IsAlive w.old.threads t.0 }
     ensures goes { LedTo (StandsFor w.old) (ends_or_asks P.functions t.0 cancel) w.new marks.old marks.new result }
     ensures frame { OnOk result (Frame w.old w.new no_numbers (if is_asynchronous_state cancel then other_than t.0 w.old.scheduler.running else w.old.scheduler.running) false) }
@@ -105,7 +105,7 @@ fn end_or_ask<P: Program>(
 
 // Whom pth_cancel names, with its cancel state; or why it is refused: the caller itself, nobody, main, or a dead thread.
 fn to_cancel<P: Program>(w: &World<P>, t: Tid, n: i64) -> Result<(Tid, u8), Errno>
-    requires whole { Whole w.now }
+    requires whole { WellFormed w.now }
     requires runs { w.now.scheduler.running ≡ Some t.0 }
     ensures refused { IfErr result (λ e. (s : State P P.State P.Shared) → StandsFor w.now s → (cancel_row P.functions s t.0 n).begin.verdict ≡ refused e) }
     ensures names { IfOk result (λ it. (s : State P P.State P.Shared) → StandsFor w.now s → (cancel_row P.functions s t.0 n).begin ≡ (says 1 trying ends_or_asks P.functions it.0.0 it.1)) }
@@ -126,7 +126,7 @@ fn to_cancel<P: Program>(w: &World<P>, t: Tid, n: i64) -> Result<(Tid, u8), Errn
 
 // Whom pth_abort names, and whether that thread is dead; or why it is refused: the caller itself, nobody, or main.
 fn to_abort<P: Program>(w: &World<P>, t: Tid, n: i64) -> Result<(Tid, bool), Errno>
-    requires whole { Whole w.now }
+    requires whole { WellFormed w.now }
     requires runs { w.now.scheduler.running ≡ Some t.0 }
     ensures refused { IfErr result (λ e. (s : State P P.State P.Shared) → StandsFor w.now s → (abort_row P.functions s t.0 n).begin.verdict ≡ refused e) }
     ensures names { IfOk result (λ it. (s : State P P.State P.Shared) → StandsFor w.now s → (abort_row P.functions s t.0 n).begin ≡ (says 1 trying aborts P.functions it.0.0 it.1)) }
@@ -154,7 +154,7 @@ fn drop_or_abort<P: Program>(
     dead: bool,
     marks: &mut Marks,
 ) -> Result<(), OutOfMemory>
-    requires whole { Whole w.old }
+    requires whole { WellFormed w.old }
     requires known { IsKnown w.old.threads t.0 }
     requires alive { dead ≡ false → IsAlive w.old.threads t.0 }
     requires dead { dead ≡ true → IsIn queue.Dead w.old.threads t.0 }
@@ -177,12 +177,12 @@ pub fn cancel<P: Program>(
     n: i64,
     marks: &mut Marks,
 ) -> Result<Next, OutOfMemory>
-    requires whole { Whole w.old }
+    requires whole { WellFormed w.old }
     requires runs { w.old.scheduler.running ≡ Some t.0 }
     requires call { call.now ≡ Cancel n }
     ensures goes { Goes (StandsFor w.old) (begun P.functions t.0 call.now) w.new marks.old marks.new result }
     ensures frame { IfOk result (λ n. Frame w.old w.new no_numbers (runs_after t.0 n) (yields_after n)) }
-    ensures keeps { OnOk result (IsUnblocked w.old t.0 → FullWhole w.old → FullWhole w.new) }
+    ensures keeps { OnOk result (IsUnblocked w.old t.0 → Whole w.old → Whole w.new) }
 {
     let (other, state) = match to_cancel(w, t, n) {
         Ok(it) => it,
@@ -203,12 +203,12 @@ pub fn abort<P: Program>(
     n: i64,
     marks: &mut Marks,
 ) -> Result<Next, OutOfMemory>
-    requires whole { Whole w.old }
+    requires whole { WellFormed w.old }
     requires runs { w.old.scheduler.running ≡ Some t.0 }
     requires call { call.now ≡ Abort n }
     ensures goes { Goes (StandsFor w.old) (begun P.functions t.0 call.now) w.new marks.old marks.new result }
     ensures frame { IfOk result (λ n. Frame w.old w.new no_numbers (runs_after t.0 n) (yields_after n)) }
-    ensures keeps { OnOk result (IsUnblocked w.old t.0 → FullWhole w.old → FullWhole w.new) }
+    ensures keeps { OnOk result (IsUnblocked w.old t.0 → Whole w.old → Whole w.new) }
 {
     let (other, dead) = match to_abort(w, t, n) {
         Ok(it) => it,

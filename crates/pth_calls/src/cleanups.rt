@@ -18,7 +18,7 @@ ghost use Rattle.pth_world.specs.Leading.{Goes, LedTo, IsTold};
 ghost use Rattle.pth_world.specs.Numbering.{no_numbers};
 ghost use Rattle.pth_world.specs.Shows.{StandsFor};
 ghost use Rattle.pth_world.specs.Sound.{IsAlive};
-ghost use Rattle.pth_world.specs.Whole.{Whole};
+ghost use Rattle.pth_world.specs.WellFormed.{WellFormed};
 
 use crate::handler_numbers::handler_named;
 use pth_base::answer::Answer;
@@ -40,7 +40,7 @@ pub(crate) fn answer_cleanups<P: Program>(
     t: Tid,
     call: &Call,
 ) -> Result<Answer, OutOfMemory>
-    requires whole { Whole w.old }
+    requires whole { WellFormed w.old }
     requires runs { w.old.scheduler.running ≡ Some t.0 }
     requires plain { is_plain call.now ≡ true }
     requires cleanups { facility_of call.now ≡ Some facility.Cleanups }
@@ -65,7 +65,7 @@ fn run_popped<P: Program>(
     arg: i64,
     marks: &mut Marks,
 ) -> Result<(), OutOfMemory>
-    requires whole { Whole w.old }
+    requires whole { WellFormed w.old }
     requires alive { IsAlive w.old.threads t.0 }
     ensures goes { LedTo (StandsFor w.old) (where_so (not (is_zero v)) (runs_handler P.functions t.0 h arg)) w.new marks.old marks.new result }
     ensures handled { OnOk result (IsHandled w.old w.new) }
@@ -85,7 +85,7 @@ pub fn pop_cleanup<P: Program>(
     v: i64,
     marks: &mut Marks,
 ) -> Result<Next, OutOfMemory>
-    requires whole { Whole w.old }
+    requires whole { WellFormed w.old }
     requires runs { w.old.scheduler.running ≡ Some t.0 }
     requires call { call.now ≡ CleanupPop v }
     ensures goes { Goes (StandsFor w.old) (begun P.functions t.0 call.now) w.new marks.old marks.new result }

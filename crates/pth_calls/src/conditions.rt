@@ -11,7 +11,7 @@ ghost use Rattle.pth_model.specs.State.{State};
 ghost use Rattle.pth_world.specs.Frame.{Frame};
 ghost use Rattle.pth_world.specs.Leading.{IsAnswered, IsQuiet};
 ghost use Rattle.pth_world.specs.Numbering.{no_numbers};
-ghost use Rattle.pth_world.specs.Whole.{Whole};
+ghost use Rattle.pth_world.specs.WellFormed.{WellFormed};
 
 use pth_base::answer::Answer;
 use pth_base::call::Call;
@@ -23,7 +23,7 @@ use pth_world::world::World;
 
 // pth_cond_init: a condition can be awaited and notified from now on.
 fn init_condition<P: Program>(w: &mut World<P>, c: i64) -> Answer
-    requires whole { Whole w.old }
+    requires whole { WellFormed w.old }
     ensures answered { IsAnswered w.old w.new result (λ (s : State P P.State P.Shared). (init_row s c).begin) }
     ensures frame { Frame w.old w.new no_numbers w.old.scheduler.running false }
 {
@@ -32,7 +32,7 @@ fn init_condition<P: Program>(w: &mut World<P>, c: i64) -> Answer
 
 /// The answer of a call on conditions that does not block its thread.
 pub(crate) fn answer_conditions<P: Program>(w: &mut World<P>, t: Tid, call: &Call) -> Answer
-    requires whole { Whole w.old }
+    requires whole { WellFormed w.old }
     requires runs { w.old.scheduler.running ≡ Some t.0 }
     requires conditions { facility_of call.now ≡ Some facility.Conditions }
     requires plain { is_plain call.now ≡ true }

@@ -12,7 +12,7 @@ ghost use Rattle.pth_model.specs.Transition.{tid};
 ghost use Rattle.pth_world.specs.Frame.{Frame};
 ghost use Rattle.pth_world.specs.Leading.{IsAnswered, IsQuiet};
 ghost use Rattle.pth_world.specs.Numbering.{no_numbers};
-ghost use Rattle.pth_world.specs.Whole.{Whole};
+ghost use Rattle.pth_world.specs.WellFormed.{WellFormed};
 
 use pth_base::answer::Answer;
 use pth_base::call::Call;
@@ -22,7 +22,7 @@ use pth_world::world::World;
 
 // close: a descriptor is live never again.
 fn close<P: Program>(w: &mut World<P>, f: i64) -> Answer
-    requires { Whole w.old }
+    requires { WellFormed w.old }
     ensures answered { IsAnswered w.old w.new result (λ (s : State P P.State P.Shared). (close_row s f).begin) }
     ensures frame { Frame w.old w.new no_numbers w.old.scheduler.running false }
 {
@@ -31,7 +31,7 @@ fn close<P: Program>(w: &mut World<P>, f: i64) -> Answer
 
 /// The answer of a call on descriptors that does not block its thread.
 pub(crate) fn answer_descriptors<P: Program>(w: &mut World<P>, call: &Call) -> Answer
-    requires whole { Whole w.old }
+    requires whole { WellFormed w.old }
     requires plain { is_plain call.now ≡ true }
     requires io { facility_of call.now ≡ Some facility.Io }
     ensures answered { (t : ℕ) → IsAnswered w.old w.new result (λ (s : State P P.State P.Shared). (row_of P.functions s t call.now).begin) }

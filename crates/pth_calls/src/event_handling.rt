@@ -13,7 +13,7 @@ ghost use Rattle.pth_model.specs.State.{State};
 ghost use Rattle.pth_world.specs.Frame.{Frame};
 ghost use Rattle.pth_world.specs.Leading.{IsAnswered, IsQuiet};
 ghost use Rattle.pth_world.specs.Numbering.{HasNumbers, no_numbers, Event, one_of};
-ghost use Rattle.pth_world.specs.Whole.{Whole};
+ghost use Rattle.pth_world.specs.WellFormed.{WellFormed};
 
 use pth_base::answer::Answer;
 use pth_base::call::Call;
@@ -96,7 +96,7 @@ fn spec_of(line: &EvLine) -> Option<EventSpec>
 
 // pth_event: a new event, alone in its ring.
 fn make_event<P: Program>(w: &mut World<P>, line: &EvLine) -> Result<Answer, OutOfMemory>
-    requires whole { Whole w.old }
+    requires whole { WellFormed w.old }
     requires few { HasNumbers w.old }
     ensures answered { IfOk result (λ a. IsAnswered w.old w.new a (λ (s : State P P.State P.Shared). (make_row s line.now).begin)) }
     ensures frame { OnOk result (Frame w.old w.new (one_of Event) w.old.scheduler.running false) }
@@ -112,7 +112,7 @@ fn make_event<P: Program>(w: &mut World<P>, line: &EvLine) -> Result<Answer, Out
 
 // The same with PTH_MODE_CHAIN: just before another event in its ring.
 fn chain<P: Program>(w: &mut World<P>, e: i64, line: &EvLine) -> Result<Answer, OutOfMemory>
-    requires whole { Whole w.old }
+    requires whole { WellFormed w.old }
     requires few { HasNumbers w.old }
     ensures answered { IfOk result (λ a. IsAnswered w.old w.new a (λ (s : State P P.State P.Shared). (chain_row s e line.now).begin)) }
     ensures frame { OnOk result (Frame w.old w.new (one_of Event) w.old.scheduler.running false) }
@@ -128,7 +128,7 @@ fn chain<P: Program>(w: &mut World<P>, e: i64, line: &EvLine) -> Result<Answer, 
 
 // pth_event_concat: two rings are one, and the first event is the answer.
 fn ev_concat<P: Program>(w: &mut World<P>, e: i64, f: i64) -> Answer
-    requires whole { Whole w.old }
+    requires whole { WellFormed w.old }
     ensures answered { IsAnswered w.old w.new result (λ (s : State P P.State P.Shared). (concat_row s e f).begin) }
     ensures frame { Frame w.old w.new no_numbers w.old.scheduler.running false }
 {
@@ -140,7 +140,7 @@ fn ev_concat<P: Program>(w: &mut World<P>, e: i64, f: i64) -> Answer
 
 // pth_event_isolate: an event stands alone, and the next one of the rest is the answer.
 fn ev_isolate<P: Program>(w: &mut World<P>, e: i64) -> Answer
-    requires whole { Whole w.old }
+    requires whole { WellFormed w.old }
     ensures answered { IsAnswered w.old w.new result (λ (s : State P P.State P.Shared). (isolate_row s e).begin) }
     ensures frame { Frame w.old w.new no_numbers w.old.scheduler.running false }
 {
@@ -153,7 +153,7 @@ fn ev_isolate<P: Program>(w: &mut World<P>, e: i64) -> Answer
 
 // pth_event_walk: the neighbour of an event, or the next one that has occurred.
 fn ev_walk<P: Program>(w: &World<P>, e: i64, forward: bool, until_occurred: bool) -> Answer
-    requires whole { Whole w.now }
+    requires whole { WellFormed w.now }
     ensures { IsAnswered w.now w.now result (λ (s : State P P.State P.Shared). (walk_row s e forward until_occurred).begin) }
 {
     match w.rings().walk(e, forward, until_occurred) {
@@ -164,7 +164,7 @@ fn ev_walk<P: Program>(w: &World<P>, e: i64, forward: bool, until_occurred: bool
 
 // pth_event_status: what was found when an event was last looked at.
 fn ev_status<P: Program>(w: &World<P>, e: i64) -> Answer
-    requires whole { Whole w.now }
+    requires whole { WellFormed w.now }
     ensures { IsAnswered w.now w.now result (λ (s : State P P.State P.Shared). (status_row s e).begin) }
 {
     match w.rings().status(e) {
@@ -177,7 +177,7 @@ fn ev_status<P: Program>(w: &World<P>, e: i64) -> Answer
 
 // pth_event_typeof: what an event is of.
 fn ev_kind<P: Program>(w: &World<P>, e: i64) -> Answer
-    requires whole { Whole w.now }
+    requires whole { WellFormed w.now }
     ensures { IsAnswered w.now w.now result (λ (s : State P P.State P.Shared). (kind_row s e).begin) }
 {
     match w.rings().kind(e) {
@@ -188,7 +188,7 @@ fn ev_kind<P: Program>(w: &World<P>, e: i64) -> Answer
 
 // pth_event_free: an event is gone, or its whole ring.
 fn ev_free<P: Program>(w: &mut World<P>, e: i64, all: bool) -> Answer
-    requires whole { Whole w.old }
+    requires whole { WellFormed w.old }
     ensures answered { IsAnswered w.old w.new result (λ (s : State P P.State P.Shared). (free_row s e all).begin) }
     ensures frame { Frame w.old w.new no_numbers w.old.scheduler.running false }
 {
@@ -235,7 +235,7 @@ pub(crate) fn answer_events<P: Program>(
     t: Tid,
     call: &Call,
 ) -> Result<Answer, OutOfMemory>
-    requires whole { Whole w.old }
+    requires whole { WellFormed w.old }
     requires runs { w.old.scheduler.running ≡ Some t.0 }
     requires few { HasNumbers w.old }
     requires events { facility_of call.now ≡ Some facility.Events }

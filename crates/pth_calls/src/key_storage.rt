@@ -11,7 +11,7 @@ ghost use Rattle.pth_model.specs.State.{State};
 ghost use Rattle.pth_world.specs.Frame.{Frame};
 ghost use Rattle.pth_world.specs.Leading.{IsAnswered, IsTold};
 ghost use Rattle.pth_world.specs.Numbering.{no_numbers};
-ghost use Rattle.pth_world.specs.Whole.{Whole};
+ghost use Rattle.pth_world.specs.WellFormed.{WellFormed};
 
 use crate::handler_numbers::destructor_named;
 use pth_base::answer::Answer;
@@ -25,7 +25,7 @@ use pth_world::world::World;
 
 // pth_key_create: the least free key.
 fn create_key<P: Program>(w: &mut World<P>, t: Tid, destructor: Option<i64>) -> Answer
-    requires whole { Whole w.old }
+    requires whole { WellFormed w.old }
     requires runs { w.old.scheduler.running ≡ Some t.0 }
     ensures told { IsTold w.old w.new (Answered t (KeyCreate destructor) result) result (λ (s : State P P.State P.Shared). (create_row s).begin) }
     ensures frame { Frame w.old w.new no_numbers (Some t.0) false }
@@ -38,7 +38,7 @@ fn create_key<P: Program>(w: &mut World<P>, t: Tid, destructor: Option<i64>) -> 
 
 // pth_key_delete: a key is free again.
 fn delete_key<P: Program>(w: &mut World<P>, t: Tid, k: i64) -> Answer
-    requires whole { Whole w.old }
+    requires whole { WellFormed w.old }
     requires runs { w.old.scheduler.running ≡ Some t.0 }
     ensures told { IsTold w.old w.new (Answered t (KeyDelete k) result) result (λ (s : State P P.State P.Shared). (delete_row s k).begin) }
     ensures frame { Frame w.old w.new no_numbers (Some t.0) false }
@@ -48,7 +48,7 @@ fn delete_key<P: Program>(w: &mut World<P>, t: Tid, k: i64) -> Answer
 
 // pth_key_getdata: the thread's value under a key.
 fn value_of<P: Program>(w: &World<P>, t: Tid, k: i64) -> Answer
-    requires whole { Whole w.now }
+    requires whole { WellFormed w.now }
     requires runs { w.now.scheduler.running ≡ Some t.0 }
     ensures { IsAnswered w.now w.now result (λ (s : State P P.State P.Shared). (get_row s t.0 k).begin) }
 {
@@ -64,7 +64,7 @@ pub(crate) fn answer_keys<P: Program>(
     t: Tid,
     call: &Call,
 ) -> Result<Answer, OutOfMemory>
-    requires whole { Whole w.old }
+    requires whole { WellFormed w.old }
     requires runs { w.old.scheduler.running ≡ Some t.0 }
     requires keys { facility_of call.now ≡ Some facility.Keys }
     ensures told { IfOk result (λ a. IsTold w.old w.new (Answered t call.now a) a (λ (s : State P P.State P.Shared). (row_of P.functions s t.0 call.now).begin)) }

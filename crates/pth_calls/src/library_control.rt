@@ -16,7 +16,7 @@ ghost use Rattle.pth_world.specs.Frame.{Frame};
 ghost use Rattle.pth_world.specs.Leading.{IsAnswered, IsQuiet};
 ghost use Rattle.pth_world.specs.Numbering.{no_numbers};
 ghost use Rattle.pth_world.specs.Shows.{StandsFor};
-ghost use Rattle.pth_world.specs.Whole.{Whole};
+ghost use Rattle.pth_world.specs.WellFormed.{WellFormed};
 
 use pth_base::answer::Answer;
 use pth_base::call::Call;
@@ -29,7 +29,7 @@ use pth_world::world::World;
 
 // How many threads a question asks for; none where it asks for something else.
 fn count<P: Program>(w: &World<P>, q: &Query) -> Option<u32>
-    requires { Whole w.now }
+    requires { WellFormed w.now }
     ensures count { IfSome result (λ n. (s : State P P.State P.Shared) → StandsFor w.now s → ctrl_row s q.now ≡ (says n changing nothing)) }
     ensures others { result ≡ None → asks_for_more q.now ≡ true }
 {
@@ -47,7 +47,7 @@ fn count<P: Program>(w: &World<P>, q: &Query) -> Option<u32>
 
 // Whether new threads are favoured from now on, and the old setting (`PTH_CTRL_FAVOURNEW`).
 fn favour_new<P: Program>(w: &mut World<P>, n: i64) -> Answer
-    requires { Whole w.old }
+    requires { WellFormed w.old }
     ensures answered { IsAnswered w.old w.new result (λ (s : State P P.State P.Shared). (ctrl_row s (Query.Favournew n)).begin) }
     ensures frame { Frame w.old w.new no_numbers w.old.scheduler.running false }
 {
@@ -61,7 +61,7 @@ fn favour_new<P: Program>(w: &mut World<P>, n: i64) -> Answer
 
 // The base priority of a thread (`PTH_CTRL_GETPRIO`).
 fn prio<P: Program>(w: &World<P>, n: i64) -> Answer
-    requires { Whole w.now }
+    requires { WellFormed w.now }
     ensures { IsAnswered w.now w.now result (λ (s : State P P.State P.Shared). (ctrl_row s (Query.Prio n)).begin) }
 {
     match w.known(n) {
@@ -72,7 +72,7 @@ fn prio<P: Program>(w: &World<P>, n: i64) -> Answer
 
 // The name of a thread (`PTH_CTRL_GETNAME`).
 fn name<P: Program>(w: &World<P>, n: i64) -> Answer
-    requires { Whole w.now }
+    requires { WellFormed w.now }
     ensures { IsAnswered w.now w.now result (λ (s : State P P.State P.Shared). (ctrl_row s (Query.Name n)).begin) }
 {
     match w.known(n) {
@@ -83,7 +83,7 @@ fn name<P: Program>(w: &World<P>, n: i64) -> Answer
 
 // pth_ctrl: how many threads there are, in each state, the setting that favours new ones, and what is known of a thread.
 fn ctrl<P: Program>(w: &mut World<P>, t: Tid, q: &Query) -> Answer
-    requires whole { Whole w.old }
+    requires whole { WellFormed w.old }
     requires runs { w.old.scheduler.running ≡ Some t.0 }
     ensures answered { IsAnswered w.old w.new result (λ (s : State P P.State P.Shared). (ctrl_row s q.now).begin) }
     ensures frame { Frame w.old w.new no_numbers (Some t.0) false }
@@ -101,7 +101,7 @@ fn ctrl<P: Program>(w: &mut World<P>, t: Tid, q: &Query) -> Answer
 
 /// The answer of a call of library control that does not end the run.
 pub(crate) fn answer_library<P: Program>(w: &mut World<P>, t: Tid, call: &Call) -> Answer
-    requires whole { Whole w.old }
+    requires whole { WellFormed w.old }
     requires runs { w.old.scheduler.running ≡ Some t.0 }
     requires plain { is_plain call.now ≡ true }
     requires library { facility_of call.now ≡ Some facility.Library }

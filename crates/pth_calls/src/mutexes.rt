@@ -12,7 +12,7 @@ ghost use Rattle.pth_model.specs.State.{State};
 ghost use Rattle.pth_world.specs.Frame.{Frame};
 ghost use Rattle.pth_world.specs.Leading.{IsTold};
 ghost use Rattle.pth_world.specs.Numbering.{no_numbers};
-ghost use Rattle.pth_world.specs.Whole.{Whole};
+ghost use Rattle.pth_world.specs.WellFormed.{WellFormed};
 
 use pth_base::answer::Answer;
 use pth_base::call::Call;
@@ -24,7 +24,7 @@ use pth_world::world::World;
 
 // pth_mutex_init: a mutex can be taken from now on.
 fn init_mutex<P: Program>(w: &mut World<P>, t: Tid, m: i64) -> Answer
-    requires whole { Whole w.old }
+    requires whole { WellFormed w.old }
     requires runs { w.old.scheduler.running ≡ Some t.0 }
     ensures told { IsTold w.old w.new (Answered t (MutexInit m) result) result (λ (s : State P P.State P.Shared). (init_row s m).begin) }
     ensures frame { Frame w.old w.new no_numbers (Some t.0) false }
@@ -34,7 +34,7 @@ fn init_mutex<P: Program>(w: &mut World<P>, t: Tid, m: i64) -> Answer
 
 /// The answer of a call on mutexes that does not block its thread.
 pub(crate) fn answer_mutexes<P: Program>(w: &mut World<P>, t: Tid, call: &Call) -> Answer
-    requires whole { Whole w.old }
+    requires whole { WellFormed w.old }
     requires runs { w.old.scheduler.running ≡ Some t.0 }
     requires plain { is_plain call.now ≡ true }
     requires mutexes { facility_of call.now ≡ Some facility.Mutexes }

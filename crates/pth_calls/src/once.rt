@@ -11,7 +11,7 @@ ghost use Rattle.pth_world.specs.Frame.{Frame, runs_after, yields_after};
 ghost use Rattle.pth_world.specs.Leading.{Goes, LedTo};
 ghost use Rattle.pth_world.specs.Numbering.{no_numbers};
 ghost use Rattle.pth_world.specs.Shows.{StandsFor};
-ghost use Rattle.pth_world.specs.Whole.{Whole};
+ghost use Rattle.pth_world.specs.WellFormed.{WellFormed};
 
 use crate::handler_numbers::handler_named;
 use pth_base::answer::Answer;
@@ -34,7 +34,7 @@ fn use_control<P: Program>(
     v: i64,
     marks: &mut Marks,
 ) -> Result<Answer, OutOfMemory>
-    requires whole { Whole w.old }
+    requires whole { WellFormed w.old }
     requires runs { w.old.scheduler.running ≡ Some t.0 }
     ensures verdict { IfOk result (λ a. (s : State P P.State P.Shared) → StandsFor w.old s → (once_row P.functions s t.0 o h v).begin.verdict ≡ Says a) }
     ensures goes { LedTo (StandsFor w.old) (λ (s : State P P.State P.Shared). effect_of (once_row P.functions s t.0 o h v).begin s) w.new marks.old marks.new result }
@@ -61,7 +61,7 @@ pub fn once<P: Program>(
     v: i64,
     marks: &mut Marks,
 ) -> Result<Next, OutOfMemory>
-    requires whole { Whole w.old }
+    requires whole { WellFormed w.old }
     requires runs { w.old.scheduler.running ≡ Some t.0 }
     requires call { call.now ≡ Once o h v }
     ensures goes { Goes (StandsFor w.old) (begun P.functions t.0 call.now) w.new marks.old marks.new result }

@@ -3,7 +3,7 @@
 ghost use Rattle.std.specs.Prelude.{◌≡◌, true, false, Some, IfOk, OnOk};
 ghost use Rattle.pth_base.specs.declared.mark.Mark.TheVariants.{Answered};
 ghost use Rattle.pth_calls.specs.Plain.{is_plain};
-ghost use Rattle.pth_end.specs.Whole.{FullWhole, IsUnblocked};
+ghost use Rattle.pth_end.specs.Whole.{Whole, IsUnblocked};
 ghost use Rattle.pth_model.specs.Calls.{begun};
 ghost use Rattle.pth_model.specs.Rows.{row_of};
 ghost use Rattle.pth_model.specs.State.{State};
@@ -12,7 +12,7 @@ ghost use Rattle.pth_world.specs.Frame.{Frame};
 ghost use Rattle.pth_world.specs.Leading.{LedTo, IsTold};
 ghost use Rattle.pth_world.specs.Numbering.{HasNumbers, one_of_each};
 ghost use Rattle.pth_world.specs.Shows.{StandsFor};
-ghost use Rattle.pth_world.specs.Whole.{Whole};
+ghost use Rattle.pth_world.specs.WellFormed.{WellFormed};
 
 use crate::attribute_handling::answer_attributes;
 use crate::barriers::answer_barriers;
@@ -40,7 +40,7 @@ use pth_world::world::World;
 
 // The answer of a call, which does what its row says.
 fn answer<P: Program>(w: &mut World<P>, t: Tid, call: &Call) -> Result<Answer, OutOfMemory>
-    requires whole { Whole w.old }
+    requires whole { WellFormed w.old }
     requires runs { w.old.scheduler.running ≡ Some t.0 }
     requires few { HasNumbers w.old }
     requires plain { is_plain call.now ≡ true }
@@ -76,14 +76,14 @@ pub fn begin_plain<P: Program>(
     call: &Call,
     marks: &mut Marks,
 ) -> Result<Answer, OutOfMemory>
-    requires whole { Whole w.old }
+    requires whole { WellFormed w.old }
     requires runs { w.old.scheduler.running ≡ Some t.0 }
     requires few { HasNumbers w.old }
     requires plain { is_plain call.now ≡ true }
     ensures next { IfOk result (λ a. (s : State P P.State P.Shared) → StandsFor w.old s → next.Done a ≡ (begun P.functions t.0 call.now s).next) }
     ensures goes { LedTo (StandsFor w.old) (λ (s : State P P.State P.Shared). (begun P.functions t.0 call.now s).told) w.new marks.old marks.new result }
     ensures frame { OnOk result (Frame w.old w.new one_of_each (Some t.0) false) }
-    ensures keeps { OnOk result (IsUnblocked w.old t.0 → FullWhole w.old → FullWhole w.new) }
+    ensures keeps { OnOk result (IsUnblocked w.old t.0 → Whole w.old → Whole w.new) }
 {
     let answer = answer(w, t, call)?;
     answer_call(t, call, answer, marks)

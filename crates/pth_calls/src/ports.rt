@@ -13,7 +13,7 @@ ghost use Rattle.pth_world.specs.Frame.{Frame};
 ghost use Rattle.pth_world.specs.Keeps.{KeepsAllButStore};
 ghost use Rattle.pth_world.specs.Leading.{IsAnswered, IsTold};
 ghost use Rattle.pth_world.specs.Numbering.{HasNumbers, Port, one_of};
-ghost use Rattle.pth_world.specs.Whole.{Whole};
+ghost use Rattle.pth_world.specs.WellFormed.{WellFormed};
 
 use pth_base::answer::Answer;
 use pth_base::call::Call;
@@ -32,7 +32,7 @@ fn create_port<P: Program>(
     t: Tid,
     name: Option<&Name>,
 ) -> Result<Answer, OutOfMemory>
-    requires whole { Whole w.old }
+    requires whole { WellFormed w.old }
     requires runs { w.old.scheduler.running ≡ Some t.0 }
     requires few { HasNumbers w.old }
     ensures told { IfOk result (λ a. IsTold w.old w.new (Answered t (PortCreate (option_copied name.entry)) a) a (λ (s : State P P.State P.Shared). (create_row s (option_copied name.entry)).begin)) }
@@ -105,7 +105,7 @@ pub(crate) fn answer_ports<P: Program>(
     t: Tid,
     call: &Call,
 ) -> Result<Answer, OutOfMemory>
-    requires whole { Whole w.old }
+    requires whole { WellFormed w.old }
     requires runs { w.old.scheduler.running ≡ Some t.0 }
     requires few { HasNumbers w.old }
     requires ports { facility_of call.now ≡ Some facility.Ports }

@@ -13,7 +13,7 @@ ghost use Rattle.pth_model.specs.State.{State};
 ghost use Rattle.pth_world.specs.Frame.{Frame};
 ghost use Rattle.pth_world.specs.Leading.{IsTold};
 ghost use Rattle.pth_world.specs.Numbering.{no_numbers};
-ghost use Rattle.pth_world.specs.Whole.{Whole};
+ghost use Rattle.pth_world.specs.WellFormed.{WellFormed};
 
 use pth_base::answer::Answer;
 use pth_base::call::Call;
@@ -24,7 +24,7 @@ use pth_world::world::World;
 
 // pth_rwlock_init: a lock can be taken from now on.
 fn init_lock<P: Program>(w: &mut World<P>, t: Tid, l: i64) -> Answer
-    requires whole { Whole w.old }
+    requires whole { WellFormed w.old }
     requires runs { w.old.scheduler.running ≡ Some t.0 }
     ensures told { IsTold w.old w.new (Answered t (RwInit l) result) result (λ (s : State P P.State P.Shared). (init_row s l).begin) }
     ensures frame { Frame w.old w.new no_numbers (Some t.0) false }
@@ -34,7 +34,7 @@ fn init_lock<P: Program>(w: &mut World<P>, t: Tid, l: i64) -> Answer
 
 // pth_rwlock_release: the thread holds the lock no longer.
 fn release_lock<P: Program>(w: &mut World<P>, t: Tid, l: i64) -> Answer
-    requires whole { Whole w.old }
+    requires whole { WellFormed w.old }
     requires runs { w.old.scheduler.running ≡ Some t.0 }
     ensures told { IsTold w.old w.new (Answered t (RwRelease l) result) result (λ (s : State P P.State P.Shared). (release_row s t.0 l).begin) }
     ensures frame { Frame w.old w.new no_numbers (Some t.0) false }
@@ -44,7 +44,7 @@ fn release_lock<P: Program>(w: &mut World<P>, t: Tid, l: i64) -> Answer
 
 /// The answer of a call on read-write locks that does not block its thread.
 pub(crate) fn answer_rwlocks<P: Program>(w: &mut World<P>, t: Tid, call: &Call) -> Answer
-    requires whole { Whole w.old }
+    requires whole { WellFormed w.old }
     requires runs { w.old.scheduler.running ≡ Some t.0 }
     requires plain { is_plain call.now ≡ true }
     requires rwlocks { facility_of call.now ≡ Some facility.Rwlocks }

@@ -22,7 +22,7 @@ ghost use Rattle.pth_world.specs.Leading.{Goes, Changed, IsAnswered, IsQuiet};
 ghost use Rattle.pth_world.specs.Numbering.{HasNumbers, no_numbers, Thread, one_of};
 ghost use Rattle.pth_world.specs.Shows.{StandsFor};
 ghost use Rattle.pth_world.specs.Sound.{IsPrio};
-ghost use Rattle.pth_world.specs.Whole.{Whole};
+ghost use Rattle.pth_world.specs.WellFormed.{WellFormed};
 
 use pth_base::answer::Answer;
 use pth_base::call::Call;
@@ -63,7 +63,7 @@ fn child_of(entry: &Entry) -> NewThread
 
 // What thread t gives a new one: its own values for 0, else those of an attribute object.
 fn values_for<P: Program>(w: &World<P>, t: Tid, attr: i64) -> Result<NewThread, Errno>
-    requires whole { Whole w.now }
+    requires whole { WellFormed w.now }
     requires runs { w.now.scheduler.running ≡ Some t.0 }
     ensures values { (s : State P P.State P.Shared) → StandsFor w.now s → result ≡ values_given s.control t.0 attr }
     ensures prio { IfOk result (λ of. IsPrio of.prio) }
@@ -85,7 +85,7 @@ fn spawn<P: Program>(
     arg: i64,
     attr: i64,
 ) -> Result<Answer, OutOfMemory>
-    requires whole { Whole w.old }
+    requires whole { WellFormed w.old }
     requires runs { w.old.scheduler.running ≡ Some t.0 }
     requires few { HasNumbers w.old }
     ensures answered { IfOk result (λ a. IsAnswered w.old w.new a (λ (s : State P P.State P.Shared). (spawn_row P.functions s t.0 number arg attr).begin)) }
@@ -127,7 +127,7 @@ fn is_not_to_suspend(it: &Entry, t: Tid) -> bool
 
 // pth_suspend: a thread that is new, ready or waiting stands among the suspended ones.
 fn suspend<P: Program>(w: &mut World<P>, t: Tid, n: i64) -> Answer
-    requires whole { Whole w.old }
+    requires whole { WellFormed w.old }
     requires runs { w.old.scheduler.running ≡ Some t.0 }
     ensures answered { IsAnswered w.old w.new result (λ (s : State P P.State P.Shared). (suspend_row s t.0 n).begin) }
     ensures frame { Frame w.old w.new no_numbers (Some t.0) false }
@@ -153,7 +153,7 @@ fn is_not_to_resume(it: &Entry, t: Tid) -> bool
 
 // pth_resume: a suspended thread stands in the queue of its state again. If this is the new queue, one thread more is new.
 fn resume<P: Program>(w: &mut World<P>, t: Tid, n: i64) -> Answer
-    requires whole { Whole w.old }
+    requires whole { WellFormed w.old }
     requires runs { w.old.scheduler.running ≡ Some t.0 }
     ensures answered { IsAnswered w.old w.new result (λ (s : State P P.State P.Shared). (resume_row s t.0 n).begin) }
     ensures frame { Frame w.old w.new (one_of Thread) (Some t.0) false }
@@ -176,7 +176,7 @@ pub(crate) fn answer_threads<P: Program>(
     t: Tid,
     call: &Call,
 ) -> Result<Answer, OutOfMemory>
-    requires whole { Whole w.old }
+    requires whole { WellFormed w.old }
     requires runs { w.old.scheduler.running ≡ Some t.0 }
     requires few { HasNumbers w.old }
     requires plain { is_plain call.now ≡ true }
@@ -203,7 +203,7 @@ fn is_not_to_run(it: &Entry) -> bool
 
 // Names the thread that is taken next, for 0 nobody. False, and nothing changes, where that thread does not wait to run.
 fn name_next<P: Program>(w: &mut World<P>, t: Tid, to: i64) -> bool
-    requires whole { Whole w.old }
+    requires whole { WellFormed w.old }
     requires runs { w.old.scheduler.running ≡ Some t.0 }
     ensures verdict { (s : State P P.State P.Shared) → StandsFor w.old s → (yield_row s t.0 to).begin.verdict ≡ (if result then Yields (Int (pos 1)) else refused EINVAL) }
     ensures effect { (s : State P P.State P.Shared) → StandsFor w.old s → Changed w.new (effect_of (yield_row s t.0 to).begin s) }
@@ -234,7 +234,7 @@ pub fn yield_to<P: Program>(
     to: i64,
     marks: &mut Marks,
 ) -> Result<Next, OutOfMemory>
-    requires whole { Whole w.old }
+    requires whole { WellFormed w.old }
     requires runs { w.old.scheduler.running ≡ Some t.0 }
     requires call { call.now ≡ Yield to }
     ensures goes { Goes (StandsFor w.old) (begun P.functions t.0 call.now) w.new marks.old marks.new result }

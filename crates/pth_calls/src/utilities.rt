@@ -12,7 +12,7 @@ ghost use Rattle.pth_model.specs.Transition.{tid};
 ghost use Rattle.pth_world.specs.Frame.{Frame};
 ghost use Rattle.pth_world.specs.Leading.{IsAnswered, IsQuiet};
 ghost use Rattle.pth_world.specs.Numbering.{no_numbers};
-ghost use Rattle.pth_world.specs.Whole.{Whole};
+ghost use Rattle.pth_world.specs.WellFormed.{WellFormed};
 
 use pth_base::answer::Answer;
 use pth_base::call::Call;
@@ -23,7 +23,7 @@ use pth_world::world::World;
 
 // pth_fdmode: whether a descriptor blocks from now on, and the mode until now.
 fn fdmode<P: Program>(w: &mut World<P>, f: i64, m: i64) -> Answer
-    requires { Whole w.old }
+    requires { WellFormed w.old }
     ensures answered { IsAnswered w.old w.new result (λ (s : State P P.State P.Shared). (fdmode_row s f m).begin) }
     ensures frame { Frame w.old w.new no_numbers w.old.scheduler.running false }
 {
@@ -35,7 +35,7 @@ fn fdmode<P: Program>(w: &mut World<P>, f: i64, m: i64) -> Answer
 
 // pth_timeout: the moment that lies so many microseconds ahead.
 fn timeout<P: Program>(w: &World<P>, n: i64) -> Answer
-    requires { Whole w.now }
+    requires { WellFormed w.now }
     ensures { IsAnswered w.now w.now result (λ (s : State P P.State P.Shared). (timeout_row s n).begin) }
 {
     if n < 0 {
@@ -46,7 +46,7 @@ fn timeout<P: Program>(w: &World<P>, n: i64) -> Answer
 
 /// The answer of a call of the utilities.
 pub(crate) fn answer_utilities<P: Program>(w: &mut World<P>, call: &Call) -> Answer
-    requires whole { Whole w.old }
+    requires whole { WellFormed w.old }
     requires utilities { facility_of call.now ≡ Some facility.Utilities }
     ensures answered { (t : ℕ) → IsAnswered w.old w.new result (λ (s : State P P.State P.Shared). (row_of P.functions s t call.now).begin) }
     ensures quiet { (t : ℕ) → IsQuiet (Answered (tid t) call.now result) }

@@ -2,7 +2,7 @@
 #![tactic(auto)]
 
 ghost use Rattle.std.specs.Prelude.{◌≡◌, ◌≤◌, None, IfOk, OnOk};
-ghost use Rattle.pth_world.specs.Whole.{Whole};
+ghost use Rattle.pth_world.specs.WellFormed.{WellFormed};
 
 mod errand;
 
@@ -67,7 +67,7 @@ fn print_marks(rt: &(impl Print + AllocGlobal), marks: &[Mark]) -> io::Result<()
 
 /// Of a thread that waits, whether what it waits for has come.
 fn wait_of(world: &World<Errand>, t: Tid, state: ThreadState) -> &'static str
-    requires { Whole world.now }
+    requires { WellFormed world.now }
 {
     match state {
         ThreadState::Waiting if wakes(world, t) => " for what has come",
@@ -78,7 +78,7 @@ fn wait_of(world: &World<Errand>, t: Tid, state: ThreadState) -> &'static str
 
 /// Prints the rank of a thread that is new, ready or waiting, and how many stand before it in its queue.
 fn print_place(rt: &(impl Print + AllocGlobal), world: &World<Errand>, t: Tid) -> io::Result<()>
-    requires { Whole world.now }
+    requires { WellFormed world.now }
 {
     match world.place(t) {
         Some((Queue::New | Queue::Ready | Queue::Waiting, rank, before)) => {
@@ -94,7 +94,7 @@ fn print_thread(
     world: &World<Errand>,
     number: u32,
 ) -> io::Result<()>
-    requires { Whole world.now }
+    requires { WellFormed world.now }
 {
     match world.entry(Tid(number)) {
         Some(entry) => {
@@ -112,7 +112,7 @@ fn print_thread(
 
 /// Prints who runs, how many threads stand in each queue, and the record of each thread that was made.
 fn print_world(rt: &(impl Print + AllocGlobal), world: &World<Errand>) -> io::Result<()>
-    requires { Whole world.now }
+    requires { WellFormed world.now }
 {
     match world.running() {
         Some(t) => println!(rt; "  thread {} runs on", t.0)?,

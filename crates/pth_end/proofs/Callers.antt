@@ -29,7 +29,7 @@ use Rattle.pth_laws.specs.Consistent.{IsCaller}
 use Rattle.pth_laws.proofs.Going.{dead_known, joins_dead}
 use Rattle.pth_world.specs.Sound.{IsKnown}
 use Rattle.pth_world.specs.StateOf.{state_of}
-use Rattle.pth_world.specs.Whole.{FitsEntry, IsMoment, IsSelection, IsWriting, MayAwaitAs, MayBlock, Whole}
+use Rattle.pth_world.specs.WellFormed.{FitsEntry, IsMoment, IsSelection, IsWriting, MayAwaitAs, MayBlock, WellFormed}
 use Rattle.pth_world.specs.World.{WorldOf}
 use Rattle.pth_world.proofs.Slots.{name_is, used}
 use Rattle.pth_world.proofs.Standing.{all_stand, dead_in_place, place_in}
@@ -94,7 +94,7 @@ running_lives s e at runs = ap (λ (i : ThreadState). lives (Some (record e { st
 
 -- ---- its record
 
-module _ {P S H : Type 0} (w : WorldOf P S H) (whole : Whole w) (t : ℕ) (runs : w.scheduler.running ≡ Some t) where
+module _ {P S H : Type 0} (w : WorldOf P S H) (whole : WellFormed w) (t : ℕ) (runs : w.scheduler.running ≡ Some t) where
   record HasSlot : Type 0 where
     slot : ℕ
     at : slot_of w.threads.records t ≡ Some slot

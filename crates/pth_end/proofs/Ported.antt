@@ -29,7 +29,7 @@ use Rattle.pth_world.specs.Keeps.{KeepsAllButStore}
 use Rattle.pth_world.specs.Leading.{IsTold}
 use Rattle.pth_world.specs.Shows.{Shows}
 use Rattle.pth_world.specs.Store.{store_of}
-use Rattle.pth_world.specs.Whole.{Whole}
+use Rattle.pth_world.specs.WellFormed.{WellFormed}
 use Rattle.pth_world.specs.World.{WorldOf}
 use Rattle.pth_end.specs.Handling.{IsHandled}
 use Rattle.pth_end.specs.Saying.{SaysRefusal}
@@ -95,5 +95,5 @@ module _ {P S H : Type 0} (w : WorldOf P S H) (x : PortsOf) where
   ports_kept made = ports_keep w x (sym (names_made x) ∙ made ∙ names_made w.store.ports)
 
   -- other messages alone: a handler may put one
-  pub ports_handled : Whole w → names_of x ≡ names_of w.store.ports → IsHandled w ported
+  pub ports_handled : WellFormed w → names_of x ≡ names_of w.store.ports → IsHandled w ported
   ports_handled whole names = handled_stored w ported whole (ports_kept (ap (λ (n : PortNames). n.made) names)) refl

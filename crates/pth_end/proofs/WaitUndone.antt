@@ -27,7 +27,7 @@ use Rattle.pth_world.specs.Frame.{Frame}
 use Rattle.pth_world.specs.Leading.{Leads, IsQuiet}
 use Rattle.pth_world.specs.Numbering.{Thread, Object, Event, Port, no_numbers}
 use Rattle.pth_world.specs.Shows.{Shows, StandsFor}
-use Rattle.pth_world.specs.Whole.{Whole}
+use Rattle.pth_world.specs.WellFormed.{WellFormed}
 use Rattle.pth_world.specs.Sound.{IsAlive, lives}
 use Rattle.pth_world.specs.World.{WorldOf, ThreadsBySlot}
 use Rattle.pth_base.specs.Naming.{seen}
@@ -141,7 +141,7 @@ module _ {P S H : Type 0} where
   cut_undoing t a s old new is cut =
       subst (λ (b : Awaited). IsCut old new ((withdraws_from t b.what and_then changes (hands_on_seats t b and stops_waiting t)) s).marks) is (cut_one s (withdraws_from t a.what) (changes (hands_on_seats t a and stops_waiting t)) old new cut)
 
-  pub undone_frame : (w v x z : WorldOf P S H) → Whole w → v ≡ record w { barriers = v.barriers } → x ≡ record v { conditions = x.conditions } → (Whole x → Whole z) → z.events.made ≡ x.events.made → z ≡ record x { threads = record x.threads { progress = z.threads.progress }; events = z.events; conditions = z.conditions } → Frame w z no_numbers w.scheduler.running false
+  pub undone_frame : (w v x z : WorldOf P S H) → WellFormed w → v ≡ record w { barriers = v.barriers } → x ≡ record v { conditions = x.conditions } → (WellFormed x → WellFormed z) → z.events.made ≡ x.events.made → z ≡ record x { threads = record x.threads { progress = z.threads.progress }; events = z.events; conditions = z.conditions } → Frame w z no_numbers w.scheduler.running false
   undone_frame w v x z whole barred seated wholes made same =
       let r = w.scheduler.running in
       let first : Frame w v no_numbers r false = subst (λ (y : WorldOf P S H). Frame w y no_numbers r false) (sym barred) (barred_frame w v.barriers whole) in

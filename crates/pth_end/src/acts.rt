@@ -14,7 +14,7 @@ ghost use Rattle.pth_model.specs.State.{State};
 ghost use Rattle.pth_world.specs.Leading.{LedTo, IsAnswered, IsTold};
 ghost use Rattle.pth_world.specs.Shows.{StandsFor};
 ghost use Rattle.pth_world.specs.Sound.{IsAlive};
-ghost use Rattle.pth_world.specs.Whole.{Whole};
+ghost use Rattle.pth_world.specs.WellFormed.{WellFormed};
 
 use crate::saying::{answer_of, refused};
 use pth_base::act::Act;
@@ -31,7 +31,7 @@ const MOST_SENT: u64 = 1 << 62;
 
 /// `pth_key_setdata`, as a call and as an act: sets a thread's value under a key. ENOENT where the key is not live.
 pub fn set_key<P: Program>(w: &mut World<P>, t: Tid, k: i64, v: i64) -> Result<Answer, OutOfMemory>
-    requires whole { Whole w.old }
+    requires whole { WellFormed w.old }
     requires alive { IsAlive w.old.threads t.0 }
     ensures told { IfOk result (λ a. IsTold w.old w.new (Answered t (KeySet k v) a) a (λ (s : State P P.State P.Shared). (key_set s k).begin)) }
     ensures handled { OnOk result (IsHandled w.old w.new) }
@@ -45,7 +45,7 @@ pub fn set_key<P: Program>(w: &mut World<P>, t: Tid, k: i64, v: i64) -> Result<A
 /// `pth_mutex_release`, as a call and as an act: a thread has one level less of a mutex. EINVAL where it is not initialised, EDEADLK
 /// where nobody has it, EACCES where another has it.
 pub fn release_mutex<P: Program>(w: &mut World<P>, t: Tid, m: i64) -> Answer
-    requires whole { Whole w.old }
+    requires whole { WellFormed w.old }
     requires alive { IsAlive w.old.threads t.0 }
     ensures told { IsTold w.old w.new (Answered t (MutexRelease m) result) result (λ (s : State P P.State P.Shared). (mutex_release s t.0 m).begin) }
     ensures handled { IsHandled w.old w.new }
@@ -56,7 +56,7 @@ pub fn release_mutex<P: Program>(w: &mut World<P>, t: Tid, m: i64) -> Answer
 /// `pth_cond_notify`, as a call and as an act: of the seats at a condition that were not notified yet the first is, if `v` is 0,
 /// and else each. EINVAL where it is not initialised.
 pub fn notify<P: Program>(w: &mut World<P>, c: i64, v: i64) -> Answer
-    requires whole { Whole w.old }
+    requires whole { WellFormed w.old }
     ensures answered { IsAnswered w.old w.new result (λ (s : State P P.State P.Shared). (cond_notify s c v).begin) }
     ensures handled { IsHandled w.old w.new }
 {
@@ -72,7 +72,7 @@ pub fn put_message<P: Program>(
     v: i64,
     reply: i64,
 ) -> Result<Answer, OutOfMemory>
-    requires whole { Whole w.old }
+    requires whole { WellFormed w.old }
     ensures told { IfOk result (λ a. (t : Tid) → IsTold w.old w.new (Answered t (PortPut p v reply) a) a (λ (s : State P P.State P.Shared). (port_put s p reply).begin)) }
     ensures handled { OnOk result (IsHandled w.old w.new) }
 {
@@ -88,7 +88,7 @@ pub fn put_message<P: Program>(
 
 // The answer of an act, which does what its row says. A note and a shared value that is set call nothing.
 fn answer_act<P: Program>(w: &mut World<P>, t: Tid, act: Act) -> Result<Answer, OutOfMemory>
-    requires whole { Whole w.old }
+    requires whole { WellFormed w.old }
     requires alive { IsAlive w.old.threads t.0 }
     ensures told { IfOk result (λ a. IsTold w.old w.new (Acted t act a) a (λ (s : State P P.State P.Shared). (row_of_act s t.0 act).begin)) }
     ensures handled { OnOk result (IsHandled w.old w.new) }
@@ -110,7 +110,7 @@ pub fn make_act<P: Program>(
     act: Act,
     marks: &mut Marks,
 ) -> Result<(), OutOfMemory>
-    requires whole { Whole w.old }
+    requires whole { WellFormed w.old }
     requires alive { IsAlive w.old.threads t.0 }
     ensures goes { LedTo (StandsFor w.old) (acts t.0 act) w.new marks.old marks.new result }
     ensures handled { OnOk result (IsHandled w.old w.new) }

@@ -8,7 +8,7 @@ ghost use Rattle.pth_world.specs.Leading.{LedTo};
 ghost use Rattle.pth_world.specs.Numbering.{no_numbers};
 ghost use Rattle.pth_world.specs.Shows.{StandsFor};
 ghost use Rattle.pth_world.specs.Sound.{IsAlive};
-ghost use Rattle.pth_world.specs.Whole.{Whole};
+ghost use Rattle.pth_world.specs.WellFormed.{WellFormed};
 
 use crate::ending::end_thread;
 use pth_base::call::Call;
@@ -30,7 +30,7 @@ pub fn cancel_from_outside<P: Program>(
     t: Tid,
     marks: &mut Marks,
 ) -> Result<(), OutOfMemory>
-    requires whole { Whole w.old }
+    requires whole { WellFormed w.old }
     requires alive { IsAlive w.old.threads t.0 }
     ensures goes { LedTo (StandsFor w.old) (canceled_by_other P.functions t.0) w.new marks.old marks.new result }
     ensures frame { OnOk result (Frame w.old w.new no_numbers (other_than t.0 w.old.scheduler.running) false) }
@@ -46,7 +46,7 @@ pub fn take_request<P: Program>(
     call: Call,
     marks: &mut Marks,
 ) -> Result<(), OutOfMemory>
-    requires whole { Whole w.old }
+    requires whole { WellFormed w.old }
     requires runs { w.old.scheduler.running ≡ Some t.0 }
     ensures goes { LedTo (StandsFor w.old) (takes_request t.0 call) w.new marks.old marks.new result }
     ensures alive { IsAlive w.new.threads t.0 }
@@ -67,7 +67,7 @@ pub fn cancel_within<P: Program>(
     call: Call,
     marks: &mut Marks,
 ) -> Result<(), OutOfMemory>
-    requires whole { Whole w.old }
+    requires whole { WellFormed w.old }
     requires runs { w.old.scheduler.running ≡ Some t.0 }
     ensures goes { LedTo (StandsFor w.old) (canceled_in P.functions t.0 call) w.new marks.old marks.new result }
     ensures frame { OnOk result (Frame w.old w.new no_numbers (other_than t.0 w.old.scheduler.running) false) }
@@ -83,7 +83,7 @@ pub fn abort_thread<P: Program>(
     t: Tid,
     marks: &mut Marks,
 ) -> Result<(), OutOfMemory>
-    requires whole { Whole w.old }
+    requires whole { WellFormed w.old }
     requires alive { IsAlive w.old.threads t.0 }
     ensures goes { LedTo (StandsFor w.old) (aborted P.functions t.0) w.new marks.old marks.new result }
     ensures frame { OnOk result (Frame w.old w.new no_numbers (other_than t.0 w.old.scheduler.running) false) }

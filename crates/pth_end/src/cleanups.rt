@@ -7,7 +7,7 @@ ghost use Rattle.pth_world.specs.Leading.{LedTo};
 ghost use Rattle.pth_world.specs.Shows.{StandsFor};
 ghost use Rattle.pth_world.specs.Sound.{IsAlive};
 ghost use Rattle.pth_world.specs.Store.{store_of};
-ghost use Rattle.pth_world.specs.Whole.{Whole};
+ghost use Rattle.pth_world.specs.WellFormed.{WellFormed};
 
 use crate::handlers::run_told_handler;
 use pth_base::ids::Tid;
@@ -23,7 +23,7 @@ fn run_below<P: Program>(
     n: u32,
     marks: &mut Marks,
 ) -> Result<(), OutOfMemory>
-    requires whole { Whole w.old }
+    requires whole { WellFormed w.old }
     requires alive { IsAlive w.old.threads t.0 }
     requires low { n ≤ 256 }
     ensures goes { LedTo (StandsFor w.old) (runs_each P.functions t.0 (drop n ((store_of w.old.store).cleanups t.0))) w.new marks.old marks.new result }
@@ -43,7 +43,7 @@ pub fn run_cleanups<P: Program>(
     t: Tid,
     marks: &mut Marks,
 ) -> Result<(), OutOfMemory>
-    requires whole { Whole w.old }
+    requires whole { WellFormed w.old }
     requires alive { IsAlive w.old.threads t.0 }
     ensures goes { LedTo (StandsFor w.old) (runs_cleanups P.functions t.0) w.new marks.old marks.new result }
     ensures handled { OnOk result (IsHandled w.old w.new) }

@@ -7,7 +7,7 @@ ghost use Rattle.pth_world.specs.Leading.{LedTo};
 ghost use Rattle.pth_world.specs.Shows.{StandsFor};
 ghost use Rattle.pth_world.specs.Sound.{IsAlive};
 ghost use Rattle.pth_world.specs.Store.{store_of};
-ghost use Rattle.pth_world.specs.Whole.{Whole};
+ghost use Rattle.pth_world.specs.WellFormed.{WellFormed};
 
 use crate::handlers::run_handler;
 use pth_base::ids::{HandlerId, Tid};
@@ -45,7 +45,7 @@ fn due(number: u8, owed: (u8, HandlerId, i64)) -> Due
 
 // The destructor that a thread runs next: the first that is owed in this round, else the first of one more round.
 fn next_destructor<P: Program>(w: &World<P>, t: Tid, round: Round) -> Option<Due>
-    requires whole { Whole w.now }
+    requires whole { WellFormed w.now }
     requires alive { IsAlive w.now.threads t.0 }
     requires few { round.number ≤ round_limit }
     ensures next { result ≡ next_of (store_of w.now.store).keys t.0 round }
@@ -68,7 +68,7 @@ fn run_destructor<P: Program>(
     due: Due,
     marks: &mut Marks,
 ) -> Result<(), OutOfMemory>
-    requires whole { Whole w.old }
+    requires whole { WellFormed w.old }
     requires alive { IsAlive w.old.threads t.0 }
     ensures goes { LedTo (StandsFor w.old) (runs_destructor P.functions t.0 due) w.new marks.old marks.new result }
     ensures handled { OnOk result (IsHandled w.old w.new) }
@@ -90,7 +90,7 @@ fn run_from<P: Program>(
     round: Round,
     marks: &mut Marks,
 ) -> Result<(), OutOfMemory>
-    requires whole { Whole w.old }
+    requires whole { WellFormed w.old }
     requires alive { IsAlive w.old.threads t.0 }
     requires few { round.number ≤ round_limit }
     ensures goes { LedTo (StandsFor w.old) (destructs P.functions t.0 left round) w.new marks.old marks.new result }
@@ -113,7 +113,7 @@ pub fn run_destructors<P: Program>(
     t: Tid,
     marks: &mut Marks,
 ) -> Result<(), OutOfMemory>
-    requires whole { Whole w.old }
+    requires whole { WellFormed w.old }
     requires alive { IsAlive w.old.threads t.0 }
     ensures goes { LedTo (StandsFor w.old) (runs_destructors P.functions t.0) w.new marks.old marks.new result }
     ensures handled { OnOk result (IsHandled w.old w.new) }

@@ -7,8 +7,8 @@ ghost use Rattle.pth_world.specs.Leading.{LedTo};
 ghost use Rattle.pth_world.specs.Numbering.{no_numbers};
 ghost use Rattle.pth_world.specs.Shows.{StandsFor};
 ghost use Rattle.pth_world.specs.Sound.{IsAlive};
-ghost use Rattle.pth_world.specs.Whole.{Whole};
-ghost use Rattle.pth_end.specs.Whole.{FullWhole};
+ghost use Rattle.pth_world.specs.WellFormed.{WellFormed};
+ghost use Rattle.pth_end.specs.Whole.{Whole};
 
 use crate::cleanups::run_cleanups;
 use crate::destructors::run_destructors;
@@ -31,11 +31,11 @@ pub fn end_thread<P: Program>(
     value: i64,
     marks: &mut Marks,
 ) -> Result<(), OutOfMemory>
-    requires whole { Whole w.old }
+    requires whole { WellFormed w.old }
     requires alive { IsAlive w.old.threads t.0 }
     ensures goes { LedTo (StandsFor w.old) (ending P.functions t.0 value) w.new marks.old marks.new result }
     ensures frame { OnOk result (Frame w.old w.new no_numbers (other_than t.0 w.old.scheduler.running) false) }
-    ensures keeps { OnOk result (FullWhole w.old → FullWhole w.new) }
+    ensures keeps { OnOk result (Whole w.old → Whole w.new) }
 {
     undo_wait(w, t, marks)?;
     run_cleanups(w, t, marks)?;

@@ -10,7 +10,7 @@ ghost use Rattle.pth_model.specs.Ending.{gives_all};
 ghost use Rattle.pth_world.specs.Leading.{LedTo};
 ghost use Rattle.pth_world.specs.Shows.{StandsFor};
 ghost use Rattle.pth_world.specs.Sound.{IsAlive};
-ghost use Rattle.pth_world.specs.Whole.{Whole};
+ghost use Rattle.pth_world.specs.WellFormed.{WellFormed};
 
 use pth_base::ids::Tid;
 use pth_base::mark::Mark;
@@ -60,7 +60,7 @@ fn tell_given(held: Held, t: Tid, set: u64, marks: &mut Marks) -> Result<(), Out
 /// A thread that ends gives up its mutexes, the least first, each with all its levels, and then so the read-write locks that it
 /// holds. After an error the world may only be dropped.
 pub fn give_all<P: Program>(w: &mut World<P>, t: Tid, marks: &mut Marks) -> Result<(), OutOfMemory>
-    requires whole { Whole w.old }
+    requires whole { WellFormed w.old }
     requires alive { IsAlive w.old.threads t.0 }
     ensures goes { LedTo (StandsFor w.old) (gives_all t.0) w.new marks.old marks.new result }
     ensures handled { OnOk result (IsHandled w.old w.new) }

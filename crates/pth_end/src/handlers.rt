@@ -2,12 +2,12 @@
 
 ghost use Rattle.std.specs.Prelude.{◌-◌, ◌≤◌, OnOk};
 ghost use Rattle.pth_end.specs.Handling.{IsHandled};
-ghost use Rattle.pth_end.specs.Whole.{FullWhole};
+ghost use Rattle.pth_end.specs.Whole.{Whole};
 ghost use Rattle.pth_model.specs.Acts.{acts_from, handled as handled_by, runs_handler};
 ghost use Rattle.pth_world.specs.Leading.{LedTo};
 ghost use Rattle.pth_world.specs.Shows.{StandsFor};
 ghost use Rattle.pth_world.specs.Sound.{IsAlive};
-ghost use Rattle.pth_world.specs.Whole.{Whole};
+ghost use Rattle.pth_world.specs.WellFormed.{WellFormed};
 
 use crate::acts::make_act;
 use pth_base::ids::{HandlerId, Tid};
@@ -26,7 +26,7 @@ fn make_acts<P: Program>(
     index: u32,
     marks: &mut Marks,
 ) -> Result<(), OutOfMemory>
-    requires whole { Whole w.old }
+    requires whole { WellFormed w.old }
     requires alive { IsAlive w.old.threads t.0 }
     requires index { index ≤ 64 }
     ensures goes { LedTo (StandsFor w.old) (acts_from P.functions t.0 h arg (65 - index) index) w.new marks.old marks.new result }
@@ -48,11 +48,11 @@ pub fn run_handler<P: Program>(
     arg: i64,
     marks: &mut Marks,
 ) -> Result<(), OutOfMemory>
-    requires whole { Whole w.old }
+    requires whole { WellFormed w.old }
     requires alive { IsAlive w.old.threads t.0 }
     ensures goes { LedTo (StandsFor w.old) (handled_by P.functions t.0 h arg) w.new marks.old marks.new result }
     ensures handled { OnOk result (IsHandled w.old w.new) }
-    ensures keeps { OnOk result (FullWhole w.old → FullWhole w.new) }
+    ensures keeps { OnOk result (Whole w.old → Whole w.new) }
 {
     make_acts(w, t, h, arg, 0, marks)
 }
@@ -66,7 +66,7 @@ pub fn run_told_handler<P: Program>(
     arg: i64,
     marks: &mut Marks,
 ) -> Result<(), OutOfMemory>
-    requires whole { Whole w.old }
+    requires whole { WellFormed w.old }
     requires alive { IsAlive w.old.threads t.0 }
     ensures goes { LedTo (StandsFor w.old) (runs_handler P.functions t.0 h arg) w.new marks.old marks.new result }
     ensures handled { OnOk result (IsHandled w.old w.new) }

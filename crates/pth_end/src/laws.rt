@@ -5,7 +5,7 @@ ghost use Rattle.pth_laws.specs.Consistent.{AreWaitsConsistent};
 ghost use Rattle.pth_laws.specs.Waits.{AllAskNoMore};
 ghost use Rattle.pth_world.specs.Shows.{StandsFor};
 ghost use Rattle.pth_world.specs.World.{WorldOf};
-ghost use Rattle.pth_end.specs.Whole.{FullWhole};
+ghost use Rattle.pth_end.specs.Whole.{Whole};
 
 use pth_base::program::Program;
 
@@ -13,6 +13,6 @@ use pth_base::program::Program;
 /// a blocked call made. So a call that is tried again asks no more than that a mutex is free, that a lock lets its thread in, or that no
 /// other thread has the mutex that is to be taken back.
 pub fn whole_worlds_wait_consistently<P: Program>()
-    ensures waits { (w : WorldOf P P.State P.Shared) (s : State P P.State P.Shared) → FullWhole w → StandsFor w s → AreWaitsConsistent s }
-    ensures rows { (w : WorldOf P P.State P.Shared) (s : State P P.State P.Shared) → FullWhole w → StandsFor w s → AllAskNoMore P.functions s }
+    ensures waits { (w : WorldOf P P.State P.Shared) (s : State P P.State P.Shared) → Whole w → StandsFor w s → AreWaitsConsistent s }
+    ensures rows { (w : WorldOf P P.State P.Shared) (s : State P P.State P.Shared) → Whole w → StandsFor w s → AllAskNoMore P.functions s }
 {}

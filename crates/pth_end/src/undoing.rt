@@ -10,7 +10,7 @@ ghost use Rattle.pth_world.specs.Leading.{LedTo};
 ghost use Rattle.pth_world.specs.Numbering.{no_numbers};
 ghost use Rattle.pth_world.specs.Shows.{Shows, StandsFor};
 ghost use Rattle.pth_world.specs.Sound.{IsAlive};
-ghost use Rattle.pth_world.specs.Whole.{Whole};
+ghost use Rattle.pth_world.specs.WellFormed.{WellFormed};
 
 use pth_base::ids::Tid;
 use pth_base::mark::Mark;
@@ -81,7 +81,7 @@ pub(crate) fn undo_wait<P: Program>(
     t: Tid,
     marks: &mut Marks,
 ) -> Result<(), OutOfMemory>
-    requires whole { Whole w.old }
+    requires whole { WellFormed w.old }
     requires alive { IsAlive w.old.threads t.0 }
     ensures goes { LedTo (StandsFor w.old) (undoes_wait t.0) w.new marks.old marks.new result }
     ensures frame { OnOk result (Frame w.old w.new no_numbers w.old.scheduler.running false) }

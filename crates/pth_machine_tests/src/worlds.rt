@@ -2,7 +2,7 @@
 
 ghost use Rattle.std.specs.Prelude.{IfOk};
 ghost use Rattle.pth_world.specs.Sound.{IsSound};
-ghost use Rattle.pth_world.specs.Whole.{Whole};
+ghost use Rattle.pth_world.specs.WellFormed.{WellFormed};
 
 use crate::comparison::holds_of;
 use pth_base::ids::Tid;
@@ -15,7 +15,7 @@ use std::test::Fail;
 
 /// The world of a script, where main is ready at rank 0.
 fn world_of(alloc: Global, text: &[u8]) -> Result<World<Script>, ReadErr>
-    ensures { IfOk result (λ world. Whole world) }
+    ensures { IfOk result (λ world. WellFormed world) }
 {
     let (script, kernel, top) = read(alloc, text)?;
     Ok(World::new(alloc, script, kernel, top)?)
@@ -23,7 +23,7 @@ fn world_of(alloc: Global, text: &[u8]) -> Result<World<Script>, ReadErr>
 
 /// A thread leaves its queue, and is ready at rank 7; nothing if it is not in the system.
 fn put_at_seven(world: &mut World<Script>, t: Tid)
-    requires { Whole world.old }
+    requires { WellFormed world.old }
     ensures { IsSound world.new.threads }
 {
     if world.entry(t).is_none() {

@@ -7,7 +7,7 @@ use Rattle.pth_model.specs.declared.awaits.Awaits.{Awaits}
 use Rattle.pth_model.specs.declared.awaits.Awaits.TheVariants.{Alone, Lock, Moment, Mutex, Ring, Round}
 use Rattle.pth_model.specs.Awaits.{death_of, is_await}
 use Rattle.pth_model.specs.State.{State, main}
-use Rattle.pth_world.specs.Whole.{MayAwaitAs}
+use Rattle.pth_world.specs.WellFormed.{MayAwaitAs}
 use Rattle.pth_waits.specs.Io.{first_awaited}
 use Rattle.pth_waits.specs.Verdicts.{NeverBlocks}
 use Rattle.pth_sched.specs.Mild.{is_mild}

@@ -18,7 +18,7 @@ use Rattle.pth_model.specs.Part.{owes_after, step_of, stepping, steps_by, steps_
 use Rattle.pth_world.specs.Leading.{Leads, StandsRightly, StandsWhere}
 use Rattle.pth_world.specs.Shows.{Shows, StandsFor}
 use Rattle.pth_world.specs.Sound.{IsKnown}
-use Rattle.pth_world.specs.Whole.{MayBlock, Whole, view}
+use Rattle.pth_world.specs.WellFormed.{MayBlock, WellFormed, view}
 use Rattle.pth_world.specs.World.{WorldOf}
 use Rattle.pth_world.proofs.Moves.{blocked_may, known_slot}
 use Rattle.pth_world.proofs.Showing.{progress_is}
@@ -31,7 +31,7 @@ use Rattle.pth_sched.proofs.Mildness.{begins_mild, is_mild_begun, owes_mild, goe
 
 module _ {P S H : Type 0} where
   -- the call that blocks the thread that runs is one that may
-  runner_may : (w : WorldOf P S H) (s : State P S H) (t : ℕ) → Whole w → StandsFor w s → w.scheduler.running ≡ Some t → IfSome (blocked_of s.control t) (λ b. MayBlock t b)
+  runner_may : (w : WorldOf P S H) (s : State P S H) (t : ℕ) → WellFormed w → StandsFor w s → w.scheduler.running ≡ Some t → IfSome (blocked_of s.control t) (λ b. MayBlock t b)
   runner_may w s t whole st runs =
       let slot = known_slot (slot_of w.threads.records t) (subst (λ (o : Option ℕ). IfSome o (λ u. IsKnown w.threads u)) runs whole.runner) in
       let is : blocked_of s.control t ≡ (view w.threads slot.0).blocked = ap blocked_in (progress_is w.threads s.control t slot.0 whole.sound slot.1 st.control.threads) in
@@ -72,7 +72,7 @@ module _ {P S H : Type 0} where
       begun_calms some shows = begun_from (s.control.threads.progress t) (some s calm.stands) (shows s.control calm.stands.control)
 
     -- a call is tried again
-    module _ (whole : Whole w) (patient : Bool) (n : Next) (old new : List Mark) (is : (k : Control P S H) → Shows w k → patient ≡ is_patient (kernel_of w.kernel) (blocked_of k t))
+    module _ (whole : WellFormed w) (patient : Bool) (n : Next) (old new : List Mark) (is : (k : Control P S H) → Shows w k → patient ≡ is_patient (kernel_of w.kernel) (blocked_of k t))
         (next : (r : State P S H) → StandsRightly w t r → n ≡ (gone_on f t r).next) (leads : (r : State P S H) → StandsRightly w t r → Leads v old new (gone_on f t r).told) where
       gone_on_by_test : (o : Option Blocked) → blocked_of s.control t ≡ o → IfSome o (λ b. MayBlock t b) → is_patient s.control.kernel o ≡ true → is_waiting (gone_on f t s).next ≡ true → IsMild t s (gone_on f t s).told.state
       gone_on_by_test None blocked may mild waits = absurd (cc mild)

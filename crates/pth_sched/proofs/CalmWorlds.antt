@@ -22,7 +22,7 @@ use Rattle.pth_model.specs.ThreadEnds.{is_alone}
 use Rattle.pth_model.specs.Transition.{controlled, changes, ◌and_then◌}
 use Rattle.pth_world.specs.Leading.{Leads}
 use Rattle.pth_world.specs.Shows.{Shows, StandsFor}
-use Rattle.pth_world.specs.Whole.{Whole}
+use Rattle.pth_world.specs.WellFormed.{WellFormed}
 use Rattle.pth_world.specs.World.{WorldOf}
 use Rattle.pth_world.specs.StateOf.{state_of}
 use Rattle.pth_world.proofs.StateOf.{stands_for_state}
@@ -100,13 +100,13 @@ module _ {P S H : Type 0} (w : WorldOf P S H) where
   ]
 
   -- where all are dormant, the world is calm
-  pub dormant_calms : (until : ℕ) → Whole w → ((s : State P S H) → StandsFor w s → AreDormant s until) → IsCalmUntil w until
+  pub dormant_calms : (until : ℕ) → WellFormed w → ((s : State P S H) → StandsFor w s → AreDormant s until) → IsCalmUntil w until
   dormant_calms until whole dormant =
       let stands = stands_for_state w whole.sound in
       record { state = state_of w; stands = stands; calm = λ u other waits. dormant (state_of w) stands u waits }
 
   -- and a pass changes nothing
-  module _ (f : P → Functions S H) (s : State P S H) (st : StandsFor w s) (whole : Whole w) (until : ℕ) (early : w.kernel.now < until) (dormant : AreDormant s until) (alone : is_alone s.control main ≡ false) where
+  module _ (f : P → Functions S H) (s : State P S H) (st : StandsFor w s) (whole : WellFormed w) (until : ℕ) (early : w.kernel.now < until) (dormant : AreDormant s until) (alone : is_alone s.control main ≡ false) where
     early_now : now_of s.control < until
     early_now = later_than_now w s.control st.control until early
 

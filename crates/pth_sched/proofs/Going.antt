@@ -18,7 +18,7 @@ use Rattle.pth_world.specs.Frame.{Frame, Names, runs_after, yields_after}
 use Rattle.pth_world.specs.Numbering.{HasGiven, GivesNone, made, no_numbers, one_of_each}
 use Rattle.pth_world.specs.Ranks.{IsUnder}
 use Rattle.pth_world.specs.Sound.{IsKnown}
-use Rattle.pth_world.specs.Whole.{Whole, IsIn, IsRunnable, OfNew, OfReady, WaitsToRun}
+use Rattle.pth_world.specs.WellFormed.{WellFormed, IsIn, IsRunnable, OfNew, OfReady, WaitsToRun}
 use Rattle.pth_world.proofs.Frames.{frame_then, gives_none}
 use Rattle.pth_sched.specs.MachineOf.{MachineOf, IsGoing}
 use Rattle.pth_sched.specs.Passing.{IsReady}
@@ -78,7 +78,7 @@ module _ {P S H : Type 0} where
   -- ---- frames
 
   -- the program's step leaves who stands where, and who is named
-  pub stepped_frame : (w m v : WorldOf P S H) (r : Option ℕ) (yields : Bool) → Whole m → m.scheduler ≡ w.scheduler → GivesNone w m → m.threads.queues ≡ w.threads.queues → Frame m v one_of_each r yields → Frame w v one_of_each r yields
+  pub stepped_frame : (w m v : WorldOf P S H) (r : Option ℕ) (yields : Bool) → WellFormed m → m.scheduler ≡ w.scheduler → GivesNone w m → m.threads.queues ≡ w.threads.queues → Frame m v one_of_each r yields → Frame w v one_of_each r yields
   stepped_frame w m v r yields whole scheduler none queues frame = frame_then one_of_each w m v m.scheduler.running r yields (record {
     whole = whole;
     runs = refl;
@@ -124,7 +124,7 @@ module _ {P S H : Type 0} (m v : MachineOf P S H) (going : IsGoing m) where
   given_still none steps k = let a = going.made k in let n = none k in omega arith
 
   -- a thread is dispatched, and nobody is named any longer
-  pub take_going : (t : ℕ) → m.world.scheduler.running ≡ None → Whole v.world → v.world.scheduler.running ≡ Some t → v.world.scheduler.preferred ≡ None → GivesNone m.world v.world → v.turn.gave ≡ None → v.turn.turns ≡ m.turn.turns + 1 → v.turn.steps ≡ m.turn.steps → IsGoing v
+  pub take_going : (t : ℕ) → m.world.scheduler.running ≡ None → WellFormed v.world → v.world.scheduler.running ≡ Some t → v.world.scheduler.preferred ≡ None → GivesNone m.world v.world → v.turn.gave ≡ None → v.turn.turns ≡ m.turn.turns + 1 → v.turn.steps ≡ m.turn.steps → IsGoing v
   take_going t nobody whole runs unnamed gives gave turns steps = record {
     whole = whole;
     preferred = subst (λ (o : Option ℕ). IfSome o (λ u. WaitsToRun v.world.threads u)) (sym unnamed) tt;
@@ -137,7 +137,7 @@ module _ {P S H : Type 0} (m v : MachineOf P S H) (going : IsGoing m) where
   }
 
   -- a step of thread t, and what its call leads to
-  pub step_going : (t : ℕ) (n : Next) (w : WorldOf P S H) → m.turn.gave ≡ None → m.world.scheduler.running ≡ Some t → Frame m.world w one_of_each (runs_after t n) (yields_after n) → Whole v.world → v.world ≡ record w { threads = record w.threads { progress = v.world.threads.progress } } → v.turn ≡ turn_after t n (record m.turn { steps = m.turn.steps + 1 }) → IsGoing v
+  pub step_going : (t : ℕ) (n : Next) (w : WorldOf P S H) → m.turn.gave ≡ None → m.world.scheduler.running ≡ Some t → Frame m.world w one_of_each (runs_after t n) (yields_after n) → WellFormed v.world → v.world ≡ record w { threads = record w.threads { progress = v.world.threads.progress } } → v.turn ≡ turn_after t n (record m.turn { steps = m.turn.steps + 1 }) → IsGoing v
   step_going t n w over runs frame whole same turn =
       let x : Turn = record m.turn { steps = m.turn.steps + 1 } in
       let none : m.world.scheduler.preferred ≡ None = going.unnamed over (subst (λ (o : Option ℕ). IsSome o) (sym runs) refl) in
@@ -159,7 +159,7 @@ module _ {P S H : Type 0} (m v : MachineOf P S H) (going : IsGoing m) where
       }
 
   -- a turn is over, and who is named goes on to wait
-  pub close_going : (t : ℕ) → m.turn.gave ≡ Some t → Whole v.world → v.world.scheduler.running ≡ None → IfSome v.world.scheduler.preferred (λ u. WaitsToRun v.world.threads u) → GivesNone m.world v.world → v.turn.gave ≡ None → v.turn.turns ≡ m.turn.turns → v.turn.steps ≡ m.turn.steps → IsGoing v
+  pub close_going : (t : ℕ) → m.turn.gave ≡ Some t → WellFormed v.world → v.world.scheduler.running ≡ None → IfSome v.world.scheduler.preferred (λ u. WaitsToRun v.world.threads u) → GivesNone m.world v.world → v.turn.gave ≡ None → v.turn.turns ≡ m.turn.turns → v.turn.steps ≡ m.turn.steps → IsGoing v
   close_going t over whole nobody named gives gave turns steps =
       let fewer : m.turn.turns ≤ m.turn.steps = subst (λ (o : Option ℕ). IfSome o (λ g. m.turn.turns ≤ m.turn.steps)) over going.over in
       record {
@@ -174,7 +174,7 @@ module _ {P S H : Type 0} (m v : MachineOf P S H) (going : IsGoing m) where
       }
 
   -- what is made leaves the turn, and who runs and is named
-  pub still_going : Whole v.world → v.world.scheduler.running ≡ m.world.scheduler.running → v.world.scheduler.preferred ≡ m.world.scheduler.preferred → GivesNone m.world v.world → ((u : ℕ) → WaitsToRun m.world.threads u → WaitsToRun v.world.threads u) → v.turn ≡ m.turn → IsGoing v
+  pub still_going : WellFormed v.world → v.world.scheduler.running ≡ m.world.scheduler.running → v.world.scheduler.preferred ≡ m.world.scheduler.preferred → GivesNone m.world v.world → ((u : ℕ) → WaitsToRun m.world.threads u → WaitsToRun v.world.threads u) → v.turn ≡ m.turn → IsGoing v
   still_going whole running named gives stays turn =
       let turns = ap (λ (x : Turn). x.turns) turn in
       let steps = ap (λ (x : Turn). x.steps) turn in

@@ -17,7 +17,7 @@ use Rattle.pth_world.specs.Store.{StoreOf}
 use Rattle.pth_world.specs.Numbering.{GivesNone, Thread, Object, Event, Port}
 use Rattle.pth_world.specs.Touches.{KeepsRest}
 use Rattle.pth_threads.specs.Attributes.{AttrsOf}
-use Rattle.pth_world.specs.Whole.{Whole, IsIn, WaitsToRun}
+use Rattle.pth_world.specs.WellFormed.{WellFormed, IsIn, WaitsToRun}
 use Rattle.pth_world.specs.World.{WorldOf, ThreadsBySlot}
 use Rattle.pth_sched.specs.MachineOf.{MachineOf, IsGoing, machine_stops, machine_stops_by}
 use Rattle.pth_sched.specs.Running.{StandsAt, Keeps, Rests}
@@ -44,7 +44,7 @@ pub some_new : {S : Type 0} (x : ThreadsBySlot S) (t : ℕ) → IsKnown x t → 
 some_new x t known stands = some_by x.queues (slot_of x.records t) known stands
 
 -- a world that stands for the start of a run
-pub start_going : {P S H : Type 0} (f : P → Functions S H) (w : WorldOf P S H) (given : Given P) → StandsFor w (start f given) → Whole w → w.threads.records.made ≡ 1 → w.attributes.objects.made ≡ 0 → w.events.made ≡ 0 → w.store.ports.made ≡ 0 → IsGoing (record { world = w; turn = no_turn })
+pub start_going : {P S H : Type 0} (f : P → Functions S H) (w : WorldOf P S H) (given : Given P) → StandsFor w (start f given) → WellFormed w → w.threads.records.made ≡ 1 → w.attributes.objects.made ≡ 0 → w.events.made ≡ 0 → w.store.ports.made ≡ 0 → IsGoing (record { world = w; turn = no_turn })
 unfolding start
 start_going f w given st whole one none no_events no_ports = let nobody : w.scheduler.preferred ≡ None = sym (ap (λ (x : Scheduler). x.preferred) st.control.scheduler) in record {
   whole = whole;

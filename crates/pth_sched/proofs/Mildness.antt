@@ -52,7 +52,7 @@ use Rattle.pth_model.specs.declared.verdict.Verdict.{Verdict}
 use Rattle.pth_model.specs.declared.verdict.Verdict.TheVariants.{Says, Yields, Blocks, Ends, Kills}
 use Rattle.pth_model.specs.Verdict.{by_result, refused, says, ◌when◌otherwise◌}
 use Rattle.pth_model.specs.ThreadControl.{is_known, joined, takes_joined, thread}
-use Rattle.pth_world.specs.Whole.{IsSelection, IsWriting, MayAwaitAs, MayBlock}
+use Rattle.pth_world.specs.WellFormed.{IsSelection, IsWriting, MayAwaitAs, MayBlock}
 use Rattle.pth_waits.proofs.Dormancy.{KeepsRounds, claimed_pending, entered_seats, same_pending, same_seats}
 use Rattle.pth_waits.proofs.Unchanged.{HasNoRoom, waiting_same}
 use Rattle.pth_sched.specs.Mild.{is_mild, waits_mildly, is_waiting}

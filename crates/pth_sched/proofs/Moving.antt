@@ -22,7 +22,7 @@ use Rattle.pth_world.specs.Shows.{Shows}
 use Rattle.pth_world.specs.Leading.{Leads}
 use Rattle.pth_world.specs.Numbering.{GivesNone, made}
 use Rattle.pth_world.specs.Ranks.{KeepsRanks}
-use Rattle.pth_world.specs.Whole.{Whole, WaitsToRun}
+use Rattle.pth_world.specs.WellFormed.{WellFormed, WaitsToRun}
 use Rattle.pth_sched.specs.MachineOf.{MachineOf}
 use Rattle.pth_sched.specs.Passing.{OnlyWakes}
 use Rattle.pth_sched.specs.Running.{Stands, Makes, Keeps}
@@ -59,7 +59,7 @@ module _ {P S H : Type 0} where
         }
 
     -- it is later, and nothing else has changed
-    pub moved_keeps : (now : ℕ) → Keeps m → Whole v.world → v.world ≡ record m.world { kernel = record m.world.kernel { now = now } } → v.turn ≡ m.turn → Keeps v
+    pub moved_keeps : (now : ℕ) → Keeps m → WellFormed v.world → v.world ≡ record m.world { kernel = record m.world.kernel { now = now } } → v.turn ≡ m.turn → Keeps v
     moved_keeps now keeps whole same turn =
         let threads : v.world.threads ≡ m.world.threads = ap (λ (w : WorldOf P S H). w.threads) same in
         let running : v.world.scheduler.running ≡ m.world.scheduler.running = ap (λ (w : WorldOf P S H). w.scheduler.running) same in

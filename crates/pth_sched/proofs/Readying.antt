@@ -20,7 +20,7 @@ use Rattle.pth_model.proofs.Queues.{queue-enter_other, queue-leave}
 use Rattle.pth_world.specs.World.{WorldOf, ThreadsBySlot}
 use Rattle.pth_world.specs.Shows.{Shows}
 use Rattle.pth_world.specs.Sound.{IsSound, IsKnown}
-use Rattle.pth_world.specs.Whole.{IsIn}
+use Rattle.pth_world.specs.WellFormed.{IsIn}
 use Rattle.pth_world.specs.Ranks.{IsUnder, greatest_return}
 use Rattle.pth_world.proofs.QueueReads.{once_thread}
 use Rattle.pth_world.proofs.Ranks.{under-roof, under-insert, under-delete}

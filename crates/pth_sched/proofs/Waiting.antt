@@ -19,7 +19,7 @@ use Rattle.pth_model.specs.Pass.{is_to_wake, looks, to_wake, waiting}
 use Rattle.pth_model.specs.RingWaits.{awaited_events}
 use Rattle.pth_model.specs.ThreadEnds.{is_alone}
 use Rattle.pth_world.specs.Shows.{Shows}
-use Rattle.pth_world.specs.Whole.{Whole, place_for}
+use Rattle.pth_world.specs.WellFormed.{WellFormed, place_for}
 use Rattle.pth_world.specs.World.{WorldOf}
 use Rattle.pth_waits.specs.Dormant.{IsDormant, StaysPending, is_left_to_join}
 use Rattle.pth_waits.proofs.Dormancy.{dormant_stays, looked_same}
@@ -56,7 +56,7 @@ unmapped : (Q : ℕ → Type 0) (name : Slot → ℕ) (xs : List Slot) → All Q
 unmapped Q name [] all = All-nil (λ (x : Slot). Q (name x))
 unmapped Q name (x ∷ xs) all = All-cons (λ (y : Slot). Q (name y)) x xs (All-head Q (name x) (map name xs) all) (unmapped Q name xs (All-tail Q (name x) (map name xs) all))
 
-module _ {P S H : Type 0} (w : WorldOf P S H) (whole : Whole w) (k : Control P S H) (sh : Shows w k) where
+module _ {P S H : Type 0} (w : WorldOf P S H) (whole : WellFormed w) (k : Control P S H) (sh : Shows w k) where
   pub all_wait : All (λ u. is_among_waiting (entry_of k u) ≡ true) (waiting k)
   all_wait =
       All-weaker (λ u. place_in (entry_of k u) ≡ Some queue.Waiting) (λ u. is_among_waiting (entry_of k u) ≡ true) (λ u. waits_by_place (entry_of k u)) (waiting k)

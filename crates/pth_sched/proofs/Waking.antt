@@ -23,7 +23,7 @@ use Rattle.pth_world.specs.Touches.{KeepsRest, SameThreads}
 use Rattle.pth_base.specs.Cut.{IsCut}
 use Rattle.pth_world.specs.Leading.{Leads}
 use Rattle.pth_world.specs.Ranks.{KeepsRanks}
-use Rattle.pth_world.specs.Whole.{Whole, WaitsToRun}
+use Rattle.pth_world.specs.WellFormed.{WellFormed, WaitsToRun}
 use Rattle.pth_world.proofs.Events.{events_whole}
 use Rattle.pth_world.proofs.Ranks.{ranks_none, ranks_then}
 use Rattle.pth_world.proofs.Telling.{has_still}
@@ -182,11 +182,11 @@ module _ {P S H : Type 0} where
     scheduler = ap (λ (x : WorldOf P S H). x.scheduler) same;
   }
 
-  pub wakes_seen : (w v : WorldOf P S H) → Whole w → v.events.made ≡ w.events.made → v ≡ record w { events = v.events } → OnlyWakes w v
+  pub wakes_seen : (w v : WorldOf P S H) → WellFormed w → v.events.made ≡ w.events.made → v ≡ record w { events = v.events } → OnlyWakes w v
   wakes_seen w v whole made same =
       let threads : v.threads ≡ w.threads = ap (λ (x : WorldOf P S H). x.threads) same in
       record {
-        whole = subst (λ (x : WorldOf P S H). Whole x) (sym same) (events_whole w v.events whole);
+        whole = subst (λ (x : WorldOf P S H). WellFormed x) (sym same) (events_whole w v.events whole);
         rest = seen_rest w v made same;
         made = ap (λ (x : ThreadsBySlot S). x.records.made) threads;
         ranks = subst (λ (x : ThreadsBySlot S). KeepsRanks 0 w.threads x) (sym threads) (ranks_none w.threads);
@@ -195,7 +195,7 @@ module _ {P S H : Type 0} where
 
   -- ---- what is kept on the way
 
-  pub wakes_none : (w : WorldOf P S H) → Whole w → OnlyWakes w w
+  pub wakes_none : (w : WorldOf P S H) → WellFormed w → OnlyWakes w w
   wakes_none w whole = record { whole = whole; rest = scheduler_first w; made = refl; ranks = ranks_none w.threads; stays = λ u waits. waits }
 
   pub wakes_then : (w m v : WorldOf P S H) → OnlyWakes w m → OnlyWakes m v → OnlyWakes w v

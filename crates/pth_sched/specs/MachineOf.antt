@@ -6,7 +6,7 @@ use Rattle.pth_base.specs.Limits.{last_moment}
 use Rattle.pth_model.specs.State.{Turn}
 use Rattle.pth_world.specs.World.{WorldOf}
 use Rattle.pth_world.specs.Numbering.{HasGiven}
-use Rattle.pth_world.specs.Whole.{Whole, WaitsToRun}
+use Rattle.pth_world.specs.WellFormed.{WellFormed, WaitsToRun}
 use Rattle.pth_world.specs.Ranks.{IsUnder, greatest_return}
 
 -- a world with the turn that it is in
@@ -16,7 +16,7 @@ pub record MachineOf (P S H : Type 0) : Type 0 where
 
 -- each step gives at most one number of each kind, and each turn but the last has at least one step
 pub record IsGoing {P S H : Type 0} (m : MachineOf P S H) : Type 0 where
-  pub whole : Whole m.world
+  pub whole : WellFormed m.world
   -- who was named by a yield waits to run
   pub preferred : IfSome m.world.scheduler.preferred (λ u. WaitsToRun m.world.threads u)
   -- while a thread runs and has not given up control, nobody is named

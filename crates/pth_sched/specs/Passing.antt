@@ -4,7 +4,7 @@ use Rattle.pth_queue.specs.Queues.{QueuesOf}
 use Rattle.pth_queue.specs.declared.queue.Queue.TheVariants.{Ready, Waiting}
 use Rattle.pth_world.specs.Sound.{IsKnown}
 use Rattle.pth_world.specs.Touches.{KeepsRest}
-use Rattle.pth_world.specs.Whole.{IsIn, Whole, WaitsToRun}
+use Rattle.pth_world.specs.WellFormed.{IsIn, WellFormed, WaitsToRun}
 use Rattle.pth_world.specs.World.{WorldOf}
 use Rattle.pth_world.specs.Ranks.{IsUnder, KeepsRanks, greatest_return}
 
@@ -28,7 +28,7 @@ WaitOnce w (t ∷ ts) = IsWaiting w t × IsNotIn t ts × WaitOnce w ts
 -- Some threads that waited may be ready now, and nothing else happened: no thread was made or lifted above the others, and whoever waits to
 -- run does so still.
 pub record OnlyWakes {P S H : Type 0} (old new : WorldOf P S H) : Type 0 where
-  pub whole : Whole new
+  pub whole : WellFormed new
   pub rest : KeepsRest old new
   pub made : new.threads.records.made ≡ old.threads.records.made
   pub ranks : KeepsRanks 0 old.threads new.threads

@@ -3,13 +3,13 @@
 ghost use Rattle.std.specs.Prelude.{◌≡◌, ◌≢◌, ℤ, false, Some, IfOk, OnOk};
 ghost use Rattle.pth_base.specs.declared.call.Call.TheVariants.{Plain, Yield};
 ghost use Rattle.pth_model.specs.Calls.{begun};
-ghost use Rattle.pth_end.specs.Whole.{FullWhole, IsUnblocked};
+ghost use Rattle.pth_end.specs.Whole.{Whole, IsUnblocked};
 ghost use Rattle.pth_waits.specs.Verdicts.{NeverBlocks};
 ghost use Rattle.pth_world.specs.Frame.{Frame, runs_after, yields_after};
 ghost use Rattle.pth_world.specs.Leading.{Goes, StandsWhere};
 ghost use Rattle.pth_world.specs.Numbering.{HasNumbers, one_of_each};
 ghost use Rattle.pth_world.specs.Shows.{StandsFor};
-ghost use Rattle.pth_world.specs.Whole.{Whole};
+ghost use Rattle.pth_world.specs.WellFormed.{WellFormed};
 
 use pth_base::answer::Answer;
 use pth_base::call::Call;
@@ -39,7 +39,7 @@ fn begin_told<P: Program>(
     call: &Call,
     marks: &mut Marks,
 ) -> Result<Next, OutOfMemory>
-    requires whole { Whole w.old }
+    requires whole { WellFormed w.old }
     requires runs { w.old.scheduler.running ≡ Some t.0 }
     requires few { HasNumbers w.old }
     requires never { NeverBlocks P P.State P.Shared call.now }
@@ -74,7 +74,7 @@ pub(crate) fn begin_at_once<P: Program>(
     call: &Call,
     marks: &mut Marks,
 ) -> Result<Next, OutOfMemory>
-    requires whole { Whole w.old }
+    requires whole { WellFormed w.old }
     requires runs { w.old.scheduler.running ≡ Some t.0 }
     requires few { HasNumbers w.old }
     requires never { NeverBlocks P P.State P.Shared call.now }
@@ -97,12 +97,12 @@ pub fn begin<P: Program>(
     call: Call,
     marks: &mut Marks,
 ) -> Result<Next, OutOfMemory>
-    requires whole { Whole w.old }
+    requires whole { WellFormed w.old }
     requires runs { w.old.scheduler.running ≡ Some t.0 }
     requires few { HasNumbers w.old }
     ensures goes { Goes (StandsWhere w.old t.0 false) (begun P.functions t.0 call) w.new marks.old marks.new result }
     ensures frame { IfOk result (λ n. Frame w.old w.new one_of_each (runs_after t.0 n) (yields_after n)) }
-    ensures keeps { OnOk result (IsUnblocked w.old t.0 → FullWhole w.old → FullWhole w.new) }
+    ensures keeps { OnOk result (IsUnblocked w.old t.0 → Whole w.old → Whole w.new) }
 {
     match attempt(w, t, &call)? {
         Some(verdict) => carry_out(w, t, call, verdict, marks),

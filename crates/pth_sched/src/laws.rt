@@ -11,8 +11,8 @@ ghost use Rattle.pth_model.specs.Part.{Step, next_part};
 ghost use Rattle.pth_model.specs.ThreadEnds.{is_alone};
 ghost use Rattle.pth_sched.specs.MachineOf.{MachineOf};
 ghost use Rattle.pth_sched.specs.Running.{GoesOn, StandsAt, TurnGoesOn};
-ghost use Rattle.pth_world.specs.Whole.{Whole};
-ghost use Rattle.pth_end.specs.Whole.{FullWhole};
+ghost use Rattle.pth_world.specs.WellFormed.{WellFormed};
+ghost use Rattle.pth_end.specs.Whole.{Whole};
 
 use pth_base::program::Program;
 
@@ -50,5 +50,5 @@ pub fn every_run_stops<P: Program>()
 
 /// Where a machine stands on a run, its world is whole. So from there on it may be driven by hand, call by call, and stays so.
 pub fn machines_on_runs_are_whole<P: Program>()
-    ensures { (g : Given P) (i : ℕ) (m : MachineOf P P.State P.Shared) → Whole m.world → StandsAt P.functions g i m → FullWhole m.world }
+    ensures { (g : Given P) (i : ℕ) (m : MachineOf P P.State P.Shared) → WellFormed m.world → StandsAt P.functions g i m → Whole m.world }
 {}

@@ -14,8 +14,8 @@ ghost use Rattle.pth_model.specs.Pass.{moment, pass};
 ghost use Rattle.pth_model.specs.Run.{run};
 ghost use Rattle.pth_model.specs.Standing.{Standing};
 ghost use Rattle.pth_threads.specs.Threads.{number_of};
-ghost use Rattle.pth_world.specs.Whole.{Whole};
-ghost use Rattle.pth_end.specs.Whole.{FullWhole};
+ghost use Rattle.pth_world.specs.WellFormed.{WellFormed};
+ghost use Rattle.pth_end.specs.Whole.{Whole};
 ghost use Rattle.pth_sched.specs.Running.{Stands, StandsAt, Makes, MakesPart, GoesOn, BreaksOff, KeepsLaws, TurnGoesOn, TurnBreaksOff, IsAtStep, IsBetweenTurns};
 
 use crate::live::live;
@@ -156,7 +156,7 @@ impl<P: Program> Machine<P> {
         ensures scheduler { OnOk result (self.new.world.scheduler ≡ self.old.world.scheduler) }
         ensures kernel { OnOk result (self.new.world.kernel ≡ self.old.world.kernel) }
         ensures failed { OnErr result (self.new.turn.outcome ≡ Outcome.OutOfMemory) }
-        ensures whole { OnOk result (FullWhole self.old.world → FullWhole self.new.world) }
+        ensures whole { OnOk result (Whole self.old.world → Whole self.new.world) }
     {
         let passed = self.schedule.pass(marks);
         self.failed = passed.is_err();
@@ -184,7 +184,7 @@ impl<P: Program> Machine<P> {
         ensures turn { OnOk result (self.new.turn ≡ self.old.turn) }
         ensures nobody { OnOk result (self.new.world.scheduler.running ≡ None) }
         ensures failed { OnErr result (self.new.turn.outcome ≡ Outcome.OutOfMemory) }
-        ensures whole { OnOk result (FullWhole self.old.world → FullWhole self.new.world) }
+        ensures whole { OnOk result (Whole self.old.world → Whole self.new.world) }
     {
         let moved = self.schedule.idle(marks);
         self.failed = moved.is_err();
@@ -255,7 +255,7 @@ impl<P: Program> Machine<P> {
     /// it can be asked for its threads and for what they wait for.
     pub fn world(&self) -> &World<P>
         ensures world { result.now ≡ self.now.world }
-        ensures whole { self.now.turn.outcome ≢ Outcome.OutOfMemory → Whole result.now }
+        ensures whole { self.now.turn.outcome ≢ Outcome.OutOfMemory → WellFormed result.now }
     {
         self.schedule.world()
     }

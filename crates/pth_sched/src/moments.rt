@@ -13,7 +13,7 @@ ghost use Rattle.pth_ring.specs.Arena.{events_of};
 ghost use Rattle.pth_ring.specs.Ring.{Begins};
 ghost use Rattle.pth_threads.specs.Threads.{tid_at};
 ghost use Rattle.pth_world.specs.Shows.{Shows, StandsFor};
-ghost use Rattle.pth_world.specs.Whole.{Whole};
+ghost use Rattle.pth_world.specs.WellFormed.{WellFormed};
 
 use pth_base::ids::{Micros, Slot};
 use pth_base::limits::LAST_MOMENT;
@@ -86,7 +86,7 @@ fn count_ring<P: Program>(w: &World<P>, e: i64, best: Option<Micros>) -> Option<
 
 // The least of the moments so far, and of those for which the thread at a slot waits.
 fn count_of<P: Program>(w: &World<P>, slot: Slot, best: Option<Micros>) -> Option<Micros>
-    requires whole { Whole w.now }
+    requires whole { WellFormed w.now }
     requires used { tid_at w.now.threads.records slot.0 ≢ 0 }
     ensures { (s : State P P.State P.Shared) (ms : List ℕ) → StandsFor w.now s → best ≡ least_after w.now.kernel.now ms
         → result ≡ least_after w.now.kernel.now (ms ++ moments_of P.functions s (tid_at w.now.threads.records slot.0)) }
@@ -102,7 +102,7 @@ fn count_of<P: Program>(w: &World<P>, slot: Slot, best: Option<Micros>) -> Optio
 /// The least moment, in microseconds, that is later than now and at which something comes to a descriptor, or for which a waiting
 /// thread waits: its call's, or that of an event of its ring.
 pub fn next_moment<P: Program>(w: &World<P>, slots: &[Slot]) -> Option<Micros>
-    requires whole { Whole w.now }
+    requires whole { WellFormed w.now }
     requires used { All (λ s. tid_at w.now.threads.records s.0 ≢ 0) slots.now }
     requires waiting { (k : Control P P.State P.Shared) → Shows w.now k → map (λ s. tid_at w.now.threads.records s.0) slots.now ≡ waiting k }
     ensures moment { (s : State P P.State P.Shared) → StandsFor w.now s → result ≡ moment P.functions s }

@@ -10,7 +10,7 @@ ghost use Rattle.pth_model.specs.RingWaits.{awaited_events};
 ghost use Rattle.pth_threads.specs.Threads.{number_of, tid_at};
 ghost use Rattle.pth_waits.specs.Dormant.{after_now};
 ghost use Rattle.pth_world.specs.Shows.{Shows, StandsFor};
-ghost use Rattle.pth_world.specs.Whole.{Whole};
+ghost use Rattle.pth_world.specs.WellFormed.{WellFormed};
 ghost use Rattle.pth_sched.specs.Calm.{AreDormant};
 
 use crate::moments::next_moment;
@@ -48,7 +48,7 @@ impl Model for PassRoom {
 
 // A waiting thread is gone over: it is listed if it is to wake.
 fn go_over<P: Program>(w: &mut World<P>, slot: Slot, any_dead: bool, waking: &mut Vec<Tid>)
-    requires whole { Whole w.old }
+    requires whole { WellFormed w.old }
     requires used { tid_at w.old.threads.records slot.0 ≢ 0 }
     requires dead { (k : Control P P.State P.Shared) → Shows w.old k → any_dead ≡ has_any_died k }
     requires room { length waking.old.items < vec_capacity waking.old }
@@ -69,7 +69,7 @@ fn go_over<P: Program>(w: &mut World<P>, slot: Slot, any_dead: bool, waking: &mu
 
 // The waiting threads are gone over in their order.
 fn go_over_all<P: Program>(w: &mut World<P>, slots: &[Slot], waking: &mut Vec<Tid>)
-    requires whole { Whole w.old }
+    requires whole { WellFormed w.old }
     requires used { All (λ s. tid_at w.old.threads.records s.0 ≢ 0) slots.now }
     requires waiting { (k : Control P P.State P.Shared) → Shows w.old k → map (λ s. tid_at w.old.threads.records s.0) slots.now ≡ waiting k }
     requires room { length slots.now ≤ vec_capacity waking.old }
@@ -89,7 +89,7 @@ fn go_over_all<P: Program>(w: &mut World<P>, slots: &[Slot], waking: &mut Vec<Ti
 // Before this moment none of the waiting threads, which stand at these slots, is to wake, if nothing changes but time; 0 where one
 // may be to wake now.
 fn all_dormant_until<P: Program>(w: &World<P>, slots: &[Slot]) -> Micros
-    requires whole { Whole w.now }
+    requires whole { WellFormed w.now }
     requires used { All (λ s. tid_at w.now.threads.records s.0 ≢ 0) slots.now }
     requires waiting { (k : Control P P.State P.Shared) → Shows w.now k → map (λ s. tid_at w.now.threads.records s.0) slots.now ≡ waiting k }
     ensures dormant { (s : State P P.State P.Shared) → StandsFor w.now s → 0 < result → AreDormant s result }
@@ -115,7 +115,7 @@ impl PassRoom {
 
     /// Looks at the events for which threads wait, and lists the waiting threads that are to wake, in their order.
     pub fn go_over<P: Program>(&mut self, w: &mut World<P>)
-        requires { Whole w.old }
+        requires { WellFormed w.old }
         ensures listed { (s : State P P.State P.Shared) → StandsFor w.old s → self.new ≡ to_wake P.functions s }
         ensures shows { (s : State P P.State P.Shared) → StandsFor w.old s → Shows w.new (looks P.functions s s.control) }
         ensures made { w.new.events.made ≡ w.old.events.made }
@@ -128,7 +128,7 @@ impl PassRoom {
     /// Before this moment no waiting thread is to wake, if nothing changes but time, and a look at their rings finds what was found
     /// before; 0 where one may be to wake now.
     pub fn dormant_until<P: Program>(&mut self, w: &World<P>) -> Micros
-        requires { Whole w.now }
+        requires { WellFormed w.now }
         ensures dormant { (s : State P P.State P.Shared) → StandsFor w.now s → 0 < result → AreDormant s result }
         ensures later { (s : State P P.State P.Shared) → StandsFor w.now s → AreDormant s (after_now s.control) → now_of s.control < result }
         ensures same { self.new ≡ self.old }
@@ -140,7 +140,7 @@ impl PassRoom {
     /// The least moment, in microseconds, that is later than now and at which something comes to a descriptor, or for which a
     /// waiting thread waits.
     pub fn next_moment<P: Program>(&mut self, w: &World<P>) -> Option<Micros>
-        requires { Whole w.now }
+        requires { WellFormed w.now }
         ensures moment { (s : State P P.State P.Shared) → StandsFor w.now s → result ≡ moment P.functions s }
         ensures later { IfSome result (λ m. w.now.kernel.now < m) }
         ensures within { IfSome result (λ m. m ≤ last_moment) }

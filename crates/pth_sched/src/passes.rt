@@ -9,8 +9,8 @@ ghost use Rattle.pth_world.specs.Leading.{LedTo};
 ghost use Rattle.pth_world.specs.Ranks.{greatest_return};
 ghost use Rattle.pth_world.specs.Shows.{Shows, StandsFor};
 ghost use Rattle.pth_world.specs.Sound.{IsKnown};
-ghost use Rattle.pth_world.specs.Whole.{Whole};
-ghost use Rattle.pth_end.specs.Whole.{FullWhole};
+ghost use Rattle.pth_world.specs.WellFormed.{WellFormed};
+ghost use Rattle.pth_end.specs.Whole.{Whole};
 ghost use Rattle.pth_waits.specs.Dormant.{IsDormant, after_now};
 ghost use Rattle.pth_sched.specs.Calm.{AreDormant, Calms, CalmsBut, is_among_waiting};
 ghost use Rattle.pth_sched.specs.Passing.{IsWaiting, OnlyWakes, WaitOnce};
@@ -29,7 +29,7 @@ use pth_world::world::World;
 
 // The rank at which a woken thread is ready: one above its base priority.
 fn woken_rank<P: Program>(w: &World<P>, t: Tid) -> i64
-    requires whole { Whole w.now }
+    requires whole { WellFormed w.now }
     requires known { IsKnown w.now.threads t.0 }
     ensures rank { (k : Control P P.State P.Shared) → Shows w.now k → result ≡ prio_of k t.0 +ℤ pos 1 }
     ensures low { neg_ℤ (pos 20) ≤ℤ result }
@@ -43,7 +43,7 @@ fn woken_rank<P: Program>(w: &World<P>, t: Tid) -> i64
 
 // A waiting thread is ready.
 fn wake<P: Program>(w: &mut World<P>, t: Tid, marks: &mut Marks) -> Result<(), OutOfMemory>
-    requires whole { Whole w.old }
+    requires whole { WellFormed w.old }
     requires waits { IsWaiting w.old t.0 }
     ensures goes { LedTo (StandsFor w.old) (woken t.0) w.new marks.old marks.new result }
     ensures only_wakes { OnlyWakes w.old w.new }
@@ -60,7 +60,7 @@ fn wake_all<P: Program>(
     list: &[Tid],
     marks: &mut Marks,
 ) -> Result<(), OutOfMemory>
-    requires whole { Whole w.old }
+    requires whole { WellFormed w.old }
     requires wait { WaitOnce w.old (map number_of list.now) }
     ensures goes { LedTo (StandsFor w.old) (all_woken (map number_of list.now)) w.new marks.old marks.new result }
     ensures only_wakes { OnOk result (OnlyWakes w.old w.new) }
@@ -78,10 +78,10 @@ pub fn pass<P: Program>(
     room: &mut PassRoom,
     marks: &mut Marks,
 ) -> Result<(), OutOfMemory>
-    requires whole { Whole w.old }
+    requires whole { WellFormed w.old }
     ensures goes { LedTo (StandsFor w.old) (pass P.functions) w.new marks.old marks.new result }
     ensures only_wakes { OnOk result (OnlyWakes w.old w.new) }
-    ensures keeps { OnOk result (FullWhole w.old → FullWhole w.new) }
+    ensures keeps { OnOk result (Whole w.old → Whole w.new) }
 {
     room.go_over(w);
     wake_all(w, room.waking(), marks)
@@ -99,7 +99,7 @@ fn is_waiting(entry: &Entry) -> bool
 
 // Before this moment a thread, if it waits, is not to wake, if nothing changes but time.
 fn own_dormant_until<P: Program>(w: &World<P>, t: Tid) -> Micros
-    requires whole { Whole w.now }
+    requires whole { WellFormed w.now }
     ensures dormant { (s : State P P.State P.Shared) → StandsFor w.now s → 0 < result → is_among_waiting (entry_of s.control t.0) ≡ true → IsDormant s result t.0 }
     ensures later { (s : State P P.State P.Shared) → StandsFor w.now s → IsDormant s (after_now s.control) t.0 → now_of s.control < result }
 {
@@ -117,7 +117,7 @@ fn own_dormant_until<P: Program>(w: &World<P>, t: Tid) -> Micros
 // Until when no thread that waits is to wake, as far as it is known once thread t has given up control: of the others by what was
 // known, and else, if nothing stirred in this turn, by a look at all.
 fn known_until<P: Program>(w: &World<P>, room: &mut PassRoom, calm: Calm, t: Tid) -> Micros
-    requires whole { Whole w.now }
+    requires whole { WellFormed w.now }
     requires calm { CalmsBut t.0 w.now calm.until }
     ensures dormant { (s : State P P.State P.Shared) → StandsFor w.now s → 0 < result → AreDormant s result }
     ensures asked { (s : State P P.State P.Shared) → StandsFor w.now s → calm.until ≡ 0 → calm.stirred ≡ false → AreDormant s (after_now s.control) → now_of s.control < result }
@@ -143,7 +143,7 @@ pub fn pass_unless_calm<P: Program>(
     t: Tid,
     marks: &mut Marks,
 ) -> Result<(), OutOfMemory>
-    requires whole { Whole w.old }
+    requires whole { WellFormed w.old }
     requires calm { CalmsBut t.0 w.old calm.old.until }
     ensures goes { LedTo (StandsFor w.old) (pass P.functions) w.new marks.old marks.new result }
     ensures only_wakes { OnOk result (OnlyWakes w.old w.new) }

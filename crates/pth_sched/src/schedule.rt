@@ -13,8 +13,8 @@ ghost use Rattle.pth_model.specs.State.{Control, Given};
 ghost use Rattle.pth_world.specs.Frame.{runs_after};
 ghost use Rattle.pth_world.specs.Leading.{AllAwaitRightly, AwaitsRightly};
 ghost use Rattle.pth_world.specs.Shows.{Shows};
-ghost use Rattle.pth_world.specs.Whole.{Whole};
-ghost use Rattle.pth_end.specs.Whole.{FullWhole};
+ghost use Rattle.pth_world.specs.WellFormed.{WellFormed};
+ghost use Rattle.pth_end.specs.Whole.{Whole};
 ghost use Rattle.pth_sched.specs.MachineOf.{IsGoing, IsRoofed, machine_stops};
 ghost use Rattle.pth_sched.specs.Running.{Stands, StandsAt, Keeps, Rests, Makes, GoesOn, BreaksOff, TurnGoesOn, TurnBreaksOff, IsBetweenTurns};
 
@@ -168,11 +168,11 @@ impl<P: Program> Schedule<P> {
 
     // What a call of thread t leads to.
     fn settle(&mut self, t: Tid, next: Next)
-        requires whole { Whole self.old.world }
+        requires whole { WellFormed self.old.world }
         requires runs { self.old.world.scheduler.running ≡ runs_after t.0 next }
         ensures shows { (k : Control P P.State P.Shared) → Shows self.old.world k → Shows self.new.world (owes_after t.0 next k) }
         ensures turn { self.new.turn ≡ turn_after t.0 next self.old.turn }
-        ensures whole { Whole self.new.world }
+        ensures whole { WellFormed self.new.world }
         ensures same { self.new.world ≡ record self.old.world { threads = record self.old.world.threads { progress = self.new.world.threads.progress } } }
     {
         match next {
@@ -249,7 +249,7 @@ impl<P: Program> Schedule<P> {
         ensures err { OnErr result ((c : Course P P.State P.Shared) → Stands self.old c
             → IsCut marks.old marks.new (pass P.functions c.state).marks) }
         ensures keeps { OnOk result (Keeps self.new) }
-        ensures whole { OnOk result (FullWhole self.old.world → FullWhole self.new.world) }
+        ensures whole { OnOk result (Whole self.old.world → Whole self.new.world) }
         ensures turn { self.new.turn ≡ self.old.turn }
         ensures scheduler { OnOk result (self.new.world.scheduler ≡ self.old.world.scheduler) }
         ensures kernel { OnOk result (self.new.world.kernel ≡ self.old.world.kernel) }
@@ -271,7 +271,7 @@ impl<P: Program> Schedule<P> {
         ensures err { OnErr result ((c : Course P P.State P.Shared) → Stands self.old c
             → IsCut marks.old marks.new (moves_by P.functions c.turn (Some moment) c.state).marks) }
         ensures keeps { OnOk result (Keeps self.new) }
-        ensures whole { OnOk result (FullWhole self.old.world → FullWhole self.new.world) }
+        ensures whole { OnOk result (Whole self.old.world → Whole self.new.world) }
         ensures turn { self.new.turn ≡ self.old.turn }
         ensures scheduler { OnOk result (self.new.world.scheduler ≡ self.old.world.scheduler) }
         ensures kernel { OnOk result (self.new.world.kernel ≡ record self.old.world.kernel { now = moment }) }
@@ -298,7 +298,7 @@ impl<P: Program> Schedule<P> {
         ensures err { OnErr result ((c : Course P P.State P.Shared) → Stands self.old c
             → IsCut marks.old marks.new (moves P.functions c.turn c.state).marks) }
         ensures keeps { OnOk result (Keeps self.new) }
-        ensures whole { OnOk result (FullWhole self.old.world → FullWhole self.new.world) }
+        ensures whole { OnOk result (Whole self.old.world → Whole self.new.world) }
         ensures turn { self.new.turn ≡ self.old.turn }
         ensures runs { OnOk result (self.new.world.scheduler.running ≡ self.old.world.scheduler.running) }
     {

@@ -17,7 +17,7 @@ ghost use Rattle.pth_world.specs.Ranks.{IsUnder, KeepsRanks, greatest_return};
 ghost use Rattle.pth_world.specs.Shows.{Shows, StandsFor};
 ghost use Rattle.pth_world.specs.Sound.{IsSound, IsKnown};
 ghost use Rattle.pth_world.specs.Touches.{KeepsRest};
-ghost use Rattle.pth_world.specs.Whole.{Whole, IsIn, WaitsToRun};
+ghost use Rattle.pth_world.specs.WellFormed.{WellFormed, IsIn, WaitsToRun};
 ghost use Rattle.pth_sched.specs.Calm.{Calms};
 ghost use Rattle.pth_sched.specs.Mild.{is_patient as is_patient_in, is_waiting as waits_on, waits_mildly as waits_mildly_in};
 ghost use Rattle.pth_sched.specs.Passing.{HasRoom, IsReady};
@@ -49,10 +49,10 @@ fn new_rank<P: Program>(w: &World<P>) -> i64
 
 /// The new threads become ready, the last of them first.
 pub fn ready_new<P: Program>(w: &mut World<P>)
-    requires whole { Whole w.old }
+    requires whole { WellFormed w.old }
     requires room { HasRoom w.old.threads.queues }
     ensures shows { (k : Control P P.State P.Shared) → Shows w.old k → Shows w.new (readies_new k) }
-    ensures whole { Whole w.new }
+    ensures whole { WellFormed w.new }
     ensures scheduler { KeepsRest w.old w.new }
     ensures made { w.new.threads.records.made ≡ w.old.threads.records.made }
     ensures none { w.new.threads.queues.new ≡ [] }
@@ -68,7 +68,7 @@ pub fn ready_new<P: Program>(w: &mut World<P>)
 
 /// The thread that the last yield named, else the head of the ready queue.
 pub fn next<P: Program>(w: &World<P>) -> Tid
-    requires whole { Whole w.now }
+    requires whole { WellFormed w.now }
     requires named { IfSome w.now.scheduler.preferred (λ u. IsReady w.now u) }
     requires some { 0 < length w.now.threads.queues.ready }
     ensures next { (k : Control P P.State P.Shared) → Shows w.now k → Some result.0 ≡ chosen k.scheduler.preferred (rows k queue.Ready) }
@@ -89,7 +89,7 @@ fn begin_unmild<P: Program>(
     call: Call,
     marks: &mut Marks,
 ) -> Result<Next, OutOfMemory>
-    requires whole { Whole w.old }
+    requires whole { WellFormed w.old }
     requires runs { w.old.scheduler.running ≡ Some t.0 }
     requires few { HasNumbers w.old }
     ensures goes { Goes (StandsWhere w.old t.0 false) (begun P.functions t.0 call) w.new marks.old marks.new result }
@@ -109,7 +109,7 @@ fn begin_next<P: Program>(
     t: Tid,
     marks: &mut Marks,
 ) -> Result<Next, OutOfMemory>
-    requires whole { Whole w.old }
+    requires whole { WellFormed w.old }
     requires runs { w.old.scheduler.running ≡ Some t.0 }
     requires few { HasNumbers w.old }
     requires free { (k : Control P P.State P.Shared) → Shows w.old k → blocked_of k t.0 ≡ None }
@@ -132,7 +132,7 @@ fn resume_blocked<P: Program>(
     t: Tid,
     marks: &mut Marks,
 ) -> Result<Next, OutOfMemory>
-    requires whole { Whole w.old }
+    requires whole { WellFormed w.old }
     requires runs { w.old.scheduler.running ≡ Some t.0 }
     ensures goes { Goes (StandsRightly w.old t.0) (gone_on P.functions t.0) w.new marks.old marks.new result }
     ensures frame { IfOk result (λ n. Frame w.old w.new no_numbers (runs_after t.0 n) (yields_after n)) }
@@ -146,7 +146,7 @@ fn resume_blocked<P: Program>(
 
 // Whether the call that blocks a thread is mild if it waits on.
 fn is_patient<P: Program>(w: &World<P>, t: Tid) -> bool
-    requires { Whole w.now }
+    requires { WellFormed w.now }
     ensures { (k : Control P P.State P.Shared) → Shows w.now k → result ≡ is_patient_in (kernel_of w.now.kernel) (blocked_of k t.0) }
 {
     match w.blocked(t) {
@@ -163,7 +163,7 @@ pub fn go_on<P: Program>(
     t: Tid,
     marks: &mut Marks,
 ) -> Result<Next, OutOfMemory>
-    requires whole { Whole w.old }
+    requires whole { WellFormed w.old }
     requires runs { w.old.scheduler.running ≡ Some t.0 }
     requires few { HasNumbers w.old }
     ensures goes { Goes (StandsRightly w.old t.0) (steps_on P.functions t.0) w.new marks.old marks.new result }
@@ -178,10 +178,10 @@ pub fn go_on<P: Program>(
 
 // The thread that gave up control is put back, unless it has ended.
 fn place<P: Program>(w: &mut World<P>, t: Tid)
-    requires whole { Whole w.old }
+    requires whole { WellFormed w.old }
     requires own { IfSome w.old.scheduler.running (λ r. r ≡ t.0) }
     ensures shows { (k : Control P P.State P.Shared) → Shows w.old k → Shows w.new (is_placed t.0 k) }
-    ensures whole { Whole w.new }
+    ensures whole { WellFormed w.new }
     ensures running { w.new.scheduler.running ≡ None }
     ensures preferred { w.new.scheduler.preferred ≡ w.old.scheduler.preferred }
     ensures gives { GivesNone w.old w.new }
@@ -202,7 +202,7 @@ fn place<P: Program>(w: &mut World<P>, t: Tid)
 // Time goes on by what a turn takes.
 fn tick<P: Program>(w: &mut World<P>)
     ensures shows { (k : Control P P.State P.Shared) → Shows w.old k → Shows w.new (time_passes k) }
-    ensures whole { Whole w.old → Whole w.new }
+    ensures whole { WellFormed w.old → WellFormed w.new }
     ensures stays { (u : ℕ) → WaitsToRun w.old.threads u → WaitsToRun w.new.threads u }
     ensures same { w.new ≡ record w.old { kernel = record w.old.kernel { now = w.new.kernel.now } } }
 {
@@ -212,11 +212,11 @@ fn tick<P: Program>(w: &mut World<P>)
 
 /// The turn of thread t is over: the ready threads rise, t is put back unless it has ended, and time goes on.
 pub fn end_turn<P: Program>(w: &mut World<P>, t: Tid)
-    requires whole { Whole w.old }
+    requires whole { WellFormed w.old }
     requires own { IfSome w.old.scheduler.running (λ r. r ≡ t.0) }
     requires rise { CanRise w.old.threads.queues.ready }
     ensures shows { (k : Control P P.State P.Shared) → Shows w.old k → Shows w.new (turn_ends t.0 k) }
-    ensures whole { Whole w.new }
+    ensures whole { WellFormed w.new }
     ensures running { w.new.scheduler.running ≡ None }
     ensures preferred { w.new.scheduler.preferred ≡ w.old.scheduler.preferred }
     ensures gives { GivesNone w.old w.new }

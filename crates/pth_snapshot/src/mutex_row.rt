@@ -3,7 +3,7 @@
 ghost use Rattle.std.specs.Prelude.{◌≡◌, ◌++◌, ◌<◌, IfOk};
 ghost use Rattle.pth_lock.specs.Mutexes.{owner_of};
 ghost use Rattle.pth_world.specs.Store.{store_of};
-ghost use Rattle.pth_world.specs.Whole.{Whole};
+ghost use Rattle.pth_world.specs.WellFormed.{WellFormed};
 ghost use Rattle.pth_snapshot.specs.Dump.{mutex_row, mutex_rows};
 
 use crate::number::{Number, add_numbers};
@@ -17,7 +17,7 @@ const MUTEXES: u32 = 64;
 
 // Adds the line of a mutex, if a thread has it.
 fn add_mutex<P: Program>(w: &World<P>, m: u32, out: &mut Text) -> Result<(), OutOfMemory>
-    requires whole { Whole w.now }
+    requires whole { WellFormed w.now }
     ensures { IfOk result (λ _. out.new ≡ out.old ++ mutex_row m (owner_of ((store_of w.now.store).mutexes m))) }
 {
     match w.mutex_owner(i64::from(m)) {
@@ -38,7 +38,7 @@ fn add_mutex<P: Program>(w: &World<P>, m: u32, out: &mut Text) -> Result<(), Out
 
 /// Adds the lines of the mutexes that threads have.
 pub fn add_mutexes<P: Program>(w: &World<P>, out: &mut Text) -> Result<(), OutOfMemory>
-    requires { Whole w.now }
+    requires { WellFormed w.now }
     ensures { IfOk result (λ _. out.new ≡ out.old ++ mutex_rows (store_of w.now.store).mutexes) }
 {
     for m in 0..MUTEXES {

@@ -28,7 +28,7 @@ use Rattle.pth_world.specs.Shows.{StandsFor}
 use Rattle.pth_world.specs.Sound.{IsSound}
 use Rattle.pth_world.specs.StateOf.{state_of}
 use Rattle.pth_world.specs.Store.{store_of}
-use Rattle.pth_world.specs.Whole.{MayAwaitAs}
+use Rattle.pth_world.specs.WellFormed.{MayAwaitAs}
 use Rattle.pth_world.specs.World.{WorldOf}
 use Rattle.pth_waits.proofs.Attempting.{none_ready, quiet_attempts, quiet_tries, refused_ready}
 

@@ -12,7 +12,7 @@ use Rattle.pth_model.specs.Row.{Attempt}
 use Rattle.pth_model.specs.State.{State}
 use Rattle.pth_world.proofs.Awaiting.{may_await}
 use Rattle.pth_world.specs.Leading.{MayComeTo, Tries}
-use Rattle.pth_world.specs.Whole.{MayAwait, MayAwaitAs}
+use Rattle.pth_world.specs.WellFormed.{MayAwait, MayAwaitAs}
 use Rattle.pth_world.specs.World.{WorldOf}
 use Rattle.pth_waits.specs.Io.{first_awaited}
 use Rattle.pth_waits.specs.Verdicts.{IsCounted, is_called}

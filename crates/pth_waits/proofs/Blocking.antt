@@ -27,7 +27,7 @@ use Rattle.pth_world.specs.Frame.{Frame}
 use Rattle.pth_world.specs.Leading.{Leads, IsQuiet, StandsOnce}
 use Rattle.pth_world.specs.Shows.{Shows, StandsFor}
 use Rattle.pth_world.specs.Store.{store_of}
-use Rattle.pth_world.specs.Whole.{Whole}
+use Rattle.pth_world.specs.WellFormed.{WellFormed}
 
 -- that a thread waits changes nothing else, but for one that awaits a condition
 pub quiet-waits : (t : ℕ) (c : Call) → is_await c ≡ false → IsQuiet (Waits (tid t) c)
@@ -81,11 +81,11 @@ waits_on_leads w s t b old new told_so sh appended =
     record { stands = record { control = sh; store = told_so }; tells = appended }
 
 -- a world of which the progress of threads alone is another one
-pub progress_frame : {P S H : Type 0} (w : WorldOf P S H) (p : List (Option (Progress S))) (r : Option ℕ) → w.scheduler.running ≡ r → Whole (record w { threads = record w.threads { progress = p } }) → Frame w (record w { threads = record w.threads { progress = p } }) no_numbers r false
+pub progress_frame : {P S H : Type 0} (w : WorldOf P S H) (p : List (Option (Progress S))) (r : Option ℕ) → w.scheduler.running ≡ r → WellFormed (record w { threads = record w.threads { progress = p } }) → Frame w (record w { threads = record w.threads { progress = p } }) no_numbers r false
 progress_frame w p r is whole = record { whole = whole; runs = is; made = gives_none no_numbers w (record w { threads = record w.threads { progress = p } }) (λ k. refl); ranks = ranks_same 0 w.threads w.threads _ refl (ranks_none w.threads); preferred = refl }
 
 -- no call blocks the thread any longer
-pub unblocked_frame : {P S H : Type 0} (w v : WorldOf P S H) (r : Option ℕ) → w.scheduler.running ≡ r → Whole v → v.events.made ≡ w.events.made → v ≡ record w { threads = record w.threads { progress = v.threads.progress }; events = v.events; conditions = v.conditions } → Frame w v no_numbers r false
+pub unblocked_frame : {P S H : Type 0} (w v : WorldOf P S H) (r : Option ℕ) → w.scheduler.running ≡ r → WellFormed v → v.events.made ≡ w.events.made → v ≡ record w { threads = record w.threads { progress = v.threads.progress }; events = v.events; conditions = v.conditions } → Frame w v no_numbers r false
 unblocked_frame {P} {S} {H} w v r is whole made same = record {
   whole = whole;
   runs = ap (λ (z : WorldOf P S H). z.scheduler.running) same ∙ is;

@@ -32,7 +32,7 @@ use Rattle.pth_world.specs.Frame.{Frame, runs_after, yields_after}
 use Rattle.pth_world.specs.Leading.{Attempts, Goes, IsIdle, IsReady, Leads, MayComeTo, StandsWhere, Tries}
 use Rattle.pth_world.specs.Numbering.{no_numbers}
 use Rattle.pth_world.specs.Shows.{Shows, StandsFor}
-use Rattle.pth_world.specs.Whole.{MayAwaitAs}
+use Rattle.pth_world.specs.WellFormed.{MayAwaitAs}
 use Rattle.pth_world.specs.World.{WorldOf}
 use Rattle.pth_waits.specs.Verdicts.{interrupted_if, is_called}
 use Rattle.pth_waits.proofs.Attempting.{IsQuietCall}

@@ -33,7 +33,7 @@ use Rattle.pth_world.proofs.StateOf.{stands_for_state}
 use Rattle.pth_world.specs.Leading.{Attempts, Changed, IsIdle, IsReady, MayComeTo, StandsOnce, Tries}
 use Rattle.pth_world.specs.Shows.{StandsFor}
 use Rattle.pth_world.specs.StateOf.{state_of}
-use Rattle.pth_world.specs.Whole.{MayAwait, MayAwaitAs, Whole}
+use Rattle.pth_world.specs.WellFormed.{MayAwait, MayAwaitAs, WellFormed}
 use Rattle.pth_world.specs.World.{WorldOf}
 use Rattle.pth_waits.proofs.Attempting.{IsQuietCall, blocked_still, changed_attempts, changed_tries, refused_ready}
 use Rattle.pth_waits.proofs.Attempted.{io_unawaited}
@@ -252,7 +252,7 @@ module _ {P S H : Type 0} (f : P → Functions S H) (s : State P S H) (t : ℕ) 
 -- ---- attempts of the code
 
 -- an attempt was made in world w, and the kernel is y then
-module _ {P S H : Type 0} (f : P → Functions S H) (w : WorldOf P S H) (whole : Whole w) (y : KernelOf) (t : ℕ) (c : Call) (a : Awaits) (may : MayAwaitAs t c a) (x : Verdict)
+module _ {P S H : Type 0} (f : P → Functions S H) (w : WorldOf P S H) (whole : WellFormed w) (y : KernelOf) (t : ℕ) (c : Call) (a : Awaits) (may : MayAwaitAs t c a) (x : Verdict)
     (is : x ≡ (trial_for (kernel_of w.kernel) a).verdict) (after : kernel_of y ≡ (trial_for (kernel_of w.kernel) a).after (kernel_of w.kernel)) where
   abbrev world_then : WorldOf P S H
   world_then = record w { kernel = y }

@@ -6,10 +6,10 @@ use Rattle.pth_model.specs.Changes.{blocked_in, blocked_of, forgets, leaves_queu
 use Rattle.pth_model.specs.State.{Control}
 use Rattle.pth_world.proofs.Moves.{queued_rests}
 use Rattle.pth_world.specs.Shows.{Shows}
-use Rattle.pth_world.specs.Whole.{Whole, IsIn}
+use Rattle.pth_world.specs.WellFormed.{WellFormed, IsIn}
 use Rattle.pth_world.specs.World.{WorldOf}
 
-pub joined_held : {P S H : Type 0} (w v : WorldOf P S H) (t other : ℕ) → Whole w → w.scheduler.running ≡ Some t → IsIn queue.Dead w.threads other → ((k : Control P S H) → Shows w k → Shows v (removes other k))
+pub joined_held : {P S H : Type 0} (w v : WorldOf P S H) (t other : ℕ) → WellFormed w → w.scheduler.running ≡ Some t → IsIn queue.Dead w.threads other → ((k : Control P S H) → Shows w k → Shows v (removes other k))
     → (k j : Control P S H) → Shows w k → Shows v j → blocked_of j t ≡ blocked_of k t
 unfolding forgets leaves_queue
 joined_held w v t other whole runs dead shows k j sh sj =

@@ -9,7 +9,7 @@ use Rattle.pth_model.specs.State.{State}
 use Rattle.pth_model.specs.Times.{rest}
 use Rattle.pth_world.specs.Leading.{Attempts, MayComeTo, Tries}
 use Rattle.pth_world.specs.Shows.{StandsFor}
-use Rattle.pth_world.specs.Whole.{IsMoment, MayAwaitAs}
+use Rattle.pth_world.specs.WellFormed.{IsMoment, MayAwaitAs}
 use Rattle.pth_world.specs.World.{WorldOf}
 use Rattle.pth_waits.specs.Rests.{IsRestVerdict}
 use Rattle.pth_waits.proofs.Attempting.{IsPlain, IsQuietCall, quiet_attempts, quiet_ready, quiet_tries}

@@ -25,7 +25,7 @@ use Rattle.pth_world.specs.World.{WorldOf}
 use Rattle.pth_world.proofs.Slots.{low, name_is, used}
 use Rattle.pth_world.proofs.Stores.{alive_known}
 use Rattle.pth_world.proofs.StateOf.{stands_for_state}
-use Rattle.pth_end.specs.Whole.{FullWhole, IsUnblocked}
+use Rattle.pth_end.specs.Whole.{Whole, IsUnblocked}
 use Rattle.pth_waits.specs.Room.{AreRoundsOver}
 
 -- who is among these arrivals has one
@@ -133,7 +133,7 @@ round_among u (x ∷ xs) h = by_test (x.tid == u) refl (round_among u xs) h
     by_test true own more h = record { round = x.round; has = rw (same_self x.round, own) refl }
     by_test false other more h = let r = more h in record { round = r.round; has = ap (λ (b : Bool). is_of r.round u x || b) r.has ∙ or_true (is_of r.round u x) }
 
-module _ {P S H : Type 0} (w : WorldOf P S H) (full : FullWhole w) (t : ℕ) (known : IsSome (slot_of w.threads.records t)) (free : IsUnblocked w t) where
+module _ {P S H : Type 0} (w : WorldOf P S H) (full : Whole w) (t : ℕ) (known : IsSome (slot_of w.threads.records t)) (free : IsUnblocked w t) where
   sound : IsSound w.threads
   sound = full.formed.sound
 

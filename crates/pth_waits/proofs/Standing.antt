@@ -8,12 +8,12 @@ use Rattle.pth_model.specs.Changes.{entry_of, holders, or_nobody}
 use Rattle.pth_model.specs.Coming.{has_any_died}
 use Rattle.pth_model.specs.ThreadControl.{first_of, is_dead_in, joinable_dead}
 use Rattle.pth_world.specs.Shows.{Shows}
-use Rattle.pth_world.specs.Whole.{Whole}
+use Rattle.pth_world.specs.WellFormed.{WellFormed}
 use Rattle.pth_world.specs.World.{WorldOf}
 use Rattle.pth_world.proofs.Standing.{all_stand, dead_in_place, dead_stands, of_standing, place_in}
 use Rattle.pth_waits.specs.Dormant.{is_left_to_join}
 
-module _ {P S H : Type 0} (w : WorldOf P S H) (whole : Whole w) (k : Control P S H) (sh : Shows w k) where
+module _ {P S H : Type 0} (w : WorldOf P S H) (whole : WellFormed w) (k : Control P S H) (sh : Shows w k) where
   abbrev CanBeJoined : ℕ → Bool
   CanBeJoined u = (or_nobody (entry_of k u)).joinable
 

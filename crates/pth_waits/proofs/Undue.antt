@@ -27,7 +27,7 @@ use Rattle.pth_model.specs.RingWaits.{events_from, has_settled, ring_held}
 use Rattle.pth_model.specs.State.{Control, State, main, now_of}
 use Rattle.pth_model.specs.Transition.{controlled}
 use Rattle.pth_world.specs.Shows.{StandsFor}
-use Rattle.pth_world.specs.Whole.{MayAwaitAs, MayBlock, Whole, view}
+use Rattle.pth_world.specs.WellFormed.{MayAwaitAs, MayBlock, WellFormed, view}
 use Rattle.pth_world.specs.World.{WorldOf}
 use Rattle.pth_world.proofs.Moves.{blocked_may}
 use Rattle.pth_world.proofs.Showing.{progress_is}
@@ -104,7 +104,7 @@ module _ {P S H : Type 0} (f : P → Functions S H) (s : State P S H) where
   pending_now None settled steady none = All-nil (λ e. StaysPending s (after_now s.control) e (s.control.events.events e))
   pending_now (Some e) settled steady none = ring_stays s (after_now s.control) (number e) (none_by _ settled) (all_found_now (s.control.events.rings (number e)) steady none)
 
-module _ {P S H : Type 0} (w : WorldOf P S H) (whole : Whole w) (s : State P S H) (st : StandsFor w s) (u : ℕ) (used : tid_at w.threads.records u ≢ 0) where
+module _ {P S H : Type 0} (w : WorldOf P S H) (whole : WellFormed w) (s : State P S H) (st : StandsFor w s) (u : ℕ) (used : tid_at w.threads.records u ≢ 0) where
   abbrev k : Control P S H
   k = s.control
 

@@ -14,7 +14,7 @@ use Rattle.pth_model.specs.State.{Control, State}
 use Rattle.pth_waits.specs.Io.{first_awaited}
 use Rattle.pth_world.specs.Leading.{Attempts, Tries}
 use Rattle.pth_world.specs.Shows.{Shows}
-use Rattle.pth_world.specs.Whole.{MayAwaitAs}
+use Rattle.pth_world.specs.WellFormed.{MayAwaitAs}
 use Rattle.pth_world.specs.World.{WorldOf}
 
 -- a plain line and a note come to none: they are told without one

@@ -10,7 +10,7 @@ ghost use Rattle.pth_world.specs.Frame.{Frame};
 ghost use Rattle.pth_world.specs.Leading.{Tries};
 ghost use Rattle.pth_world.specs.Numbering.{no_numbers};
 ghost use Rattle.pth_world.specs.Shows.{Shows};
-ghost use Rattle.pth_world.specs.Whole.{Whole};
+ghost use Rattle.pth_world.specs.WellFormed.{WellFormed};
 
 use crate::barriers::{reach_barrier, reach_barrier_again};
 use crate::conditions::await_condition;
@@ -36,7 +36,7 @@ pub fn attempt<P: Program>(
     t: Tid,
     call: &Call,
 ) -> Result<Option<Verdict>, OutOfMemory>
-    requires whole { Whole w.old }
+    requires whole { WellFormed w.old }
     requires runs { w.old.scheduler.running ≡ Some t.0 }
     ensures attempts { IfOk result (λ o. IfSome o (λ x. Begins w.old w.new t.0 call.now (λ s. row_of P.functions s t.0 call.now) x)) }
     ensures called { IfOk result (λ o. IfSome o (λ x. is_called call.now ≡ true)) }
@@ -65,7 +65,7 @@ pub(crate) fn attempt_again<P: Program>(
     w: &mut World<P>,
     t: Tid,
 ) -> Result<Option<Verdict>, OutOfMemory>
-    requires whole { Whole w.old }
+    requires whole { WellFormed w.old }
     requires runs { w.old.scheduler.running ≡ Some t.0 }
     requires other { AwaitsNone w.old t.0 }
     ensures tries { IfOk result (λ o. IfSome o (λ x. (k : Control P P.State P.Shared) (b : Blocked) → Shows w.old k → blocked_of k t.0 ≡ Some b → Tries w.old w.new t.0 b (λ s. (row_of P.functions s t.0 b.call).again b.awaits) x)) }

@@ -3,7 +3,7 @@
 ghost use Rattle.std.specs.Prelude.{◌≡◌, false, Some, IfOk, OnOk, OnErr};
 ghost use Rattle.pth_base.specs.declared.call.Call.TheVariants.{BarrierReach};
 ghost use Rattle.pth_cond.specs.Barriers.{barriers_of, has_passed};
-ghost use Rattle.pth_end.specs.Whole.{FullWhole, IsUnblocked};
+ghost use Rattle.pth_end.specs.Whole.{Whole, IsUnblocked};
 ghost use Rattle.pth_model.specs.Awaits.{round_in};
 ghost use Rattle.pth_model.specs.Barriers.{arrived_as, barrier_reach};
 ghost use Rattle.pth_model.specs.State.{Control, State};
@@ -15,7 +15,7 @@ ghost use Rattle.pth_world.specs.Frame.{Frame};
 ghost use Rattle.pth_world.specs.Leading.{Tries};
 ghost use Rattle.pth_world.specs.Numbering.{no_numbers};
 ghost use Rattle.pth_world.specs.Shows.{Shows};
-ghost use Rattle.pth_world.specs.Whole.{Whole};
+ghost use Rattle.pth_world.specs.WellFormed.{WellFormed};
 
 use pth_base::answer::Answer;
 use pth_base::errno::Errno;
@@ -46,11 +46,11 @@ pub(crate) fn reach_barrier<P: Program>(
     t: Tid,
     b: i64,
 ) -> Result<Verdict, OutOfMemory>
-    requires whole { Whole w.old }
+    requires whole { WellFormed w.old }
     requires runs { w.old.scheduler.running ≡ Some t.0 }
     ensures attempts { IfOk result (λ x. Begins w.old w.new t.0 (BarrierReach b) (λ s. barrier_reach s t.0 b) x) }
     ensures frame { OnOk result (Frame w.old w.new no_numbers w.old.scheduler.running false) }
-    ensures wanted { OnErr result (IsUnblocked w.old t.0 → FullWhole w.old → AreRoundsOver (barriers_of w.old.barriers) b) }
+    ensures wanted { OnErr result (IsUnblocked w.old t.0 → Whole w.old → AreRoundsOver (barriers_of w.old.barriers) b) }
 {
     if !w.barriers().has_room(b) {
         return Err(OutOfMemory);
@@ -66,7 +66,7 @@ pub(crate) fn reach_barrier_again<P: Program>(
     b: i64,
     round: u64,
 ) -> Verdict
-    requires whole { Whole w.old }
+    requires whole { WellFormed w.old }
     requires runs { w.old.scheduler.running ≡ Some t.0 }
     ensures tries { (a : AwaitsOf) → round_in a ≡ round → Tries w.old w.new t.0 (record { call = BarrierReach b; awaits = a }) (λ s. (barrier_reach s t.0 b).again a) result }
     ensures frame { Frame w.old w.new no_numbers w.old.scheduler.running false }

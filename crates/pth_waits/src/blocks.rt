@@ -12,7 +12,7 @@ ghost use Rattle.pth_world.specs.Frame.{Frame};
 ghost use Rattle.pth_world.specs.Leading.{IsReady, Leads, StandsOnce};
 ghost use Rattle.pth_world.specs.Numbering.{no_numbers};
 ghost use Rattle.pth_world.specs.Shows.{Shows};
-ghost use Rattle.pth_world.specs.Whole.{MayAwaitAs, Whole};
+ghost use Rattle.pth_world.specs.WellFormed.{MayAwaitAs, WellFormed};
 
 use pth_base::answer::Answer;
 use pth_base::call::Call;
@@ -35,7 +35,7 @@ pub(crate) fn block<P: Program>(
     awaits: Awaits,
     marks: &mut Marks,
 ) -> Result<(), OutOfMemory>
-    requires whole { Whole w.old }
+    requires whole { WellFormed w.old }
     requires runs { w.old.scheduler.running ≡ Some t.0 }
     requires may { MayAwaitAs t.0 call awaits }
     ensures ok { OnOk result ((s : State P P.State P.Shared) → IsReady w.old t.0 call (ring_given call) (Blocks awaits) s → Leads w.new marks.old marks.new (waits_by t.0 call awaits s)) }
@@ -58,7 +58,7 @@ pub(crate) fn answer_blocked<P: Program>(
     answer: Answer,
     marks: &mut Marks,
 ) -> Result<Answer, OutOfMemory>
-    requires whole { Whole w.old }
+    requires whole { WellFormed w.old }
     requires runs { w.old.scheduler.running ≡ Some t.0 }
     requires some { (k : Control P P.State P.Shared) → Shows w.old k → IsSome (blocked_of k t.0) }
     ensures value { IfOk result (λ a. a ≡ answer) }
@@ -80,7 +80,7 @@ pub(crate) fn block_on<P: Program>(
     awaits: Awaits,
     marks: &mut Marks,
 ) -> Result<(), OutOfMemory>
-    requires whole { Whole w.old }
+    requires whole { WellFormed w.old }
     requires runs { w.old.scheduler.running ≡ Some t.0 }
     requires some { (k : Control P P.State P.Shared) → Shows w.old k → IsSome (blocked_of k t.0) }
     requires may { (k : Control P P.State P.Shared) → Shows w.old k → IfSome (blocked_of k t.0) (λ b. MayAwaitAs t.0 b.call awaits) }

@@ -6,14 +6,14 @@ ghost use Rattle.pth_model.specs.Calls.{begun};
 ghost use Rattle.pth_model.specs.Cancellation.{is_point as is_point_wait, is_to_cancel as is_to_cancel_by, may_be_canceled as may_be_canceled_in};
 ghost use Rattle.pth_model.specs.Changes.{entry_of, or_nobody};
 ghost use Rattle.pth_model.specs.State.{Control};
-ghost use Rattle.pth_end.specs.Whole.{FullWhole, IsUnblocked};
+ghost use Rattle.pth_end.specs.Whole.{Whole, IsUnblocked};
 ghost use Rattle.pth_threads.specs.Threads.{tid_at};
 ghost use Rattle.pth_world.specs.Frame.{Frame, runs_after, yields_after};
 ghost use Rattle.pth_world.specs.Leading.{Goes};
 ghost use Rattle.pth_world.specs.Numbering.{no_numbers};
 ghost use Rattle.pth_world.specs.Shows.{Shows, StandsFor};
 ghost use Rattle.pth_world.specs.Sound.{IsSound};
-ghost use Rattle.pth_world.specs.Whole.{Whole};
+ghost use Rattle.pth_world.specs.WellFormed.{WellFormed};
 
 use pth_base::answer::Answer;
 use pth_base::call::Call;
@@ -60,7 +60,7 @@ fn is_asked<P: Program>(w: &World<P>, t: Tid) -> bool
 
 /// Whether a thread was asked to end, lets itself be canceled, and is blocked in a cancellation point.
 pub fn may_be_canceled<P: Program>(w: &World<P>, t: Tid) -> bool
-    requires { Whole w.now }
+    requires { WellFormed w.now }
     ensures { (k : Control P P.State P.Shared) → Shows w.now k → result ≡ may_be_canceled_in k t.0 }
 {
     is_asked(w, t) && is_point(w.awaited(t).what)
@@ -68,7 +68,7 @@ pub fn may_be_canceled<P: Program>(w: &World<P>, t: Tid) -> bool
 
 /// The same of the thread at a slot.
 pub fn may_be_canceled_at<P: Program>(w: &World<P>, slot: Slot) -> bool
-    requires whole { Whole w.now }
+    requires whole { WellFormed w.now }
     requires used { tid_at w.now.threads.records slot.0 ≢ 0 }
     ensures { (k : Control P P.State P.Shared) → Shows w.now k → result ≡ may_be_canceled_in k (tid_at w.now.threads.records slot.0) }
 {
@@ -83,12 +83,12 @@ pub fn cancel_point<P: Program>(
     call: &Call,
     marks: &mut Marks,
 ) -> Result<Next, OutOfMemory>
-    requires whole { Whole w.old }
+    requires whole { WellFormed w.old }
     requires runs { w.old.scheduler.running ≡ Some t.0 }
     requires call { call.now ≡ CancelPoint }
     ensures goes { Goes (StandsFor w.old) (begun P.functions t.0 call.now) w.new marks.old marks.new result }
     ensures frame { IfOk result (λ n. Frame w.old w.new no_numbers (runs_after t.0 n) (yields_after n)) }
-    ensures keeps { OnOk result (IsUnblocked w.old t.0 → FullWhole w.old → FullWhole w.new) }
+    ensures keeps { OnOk result (IsUnblocked w.old t.0 → Whole w.old → Whole w.new) }
 {
     if is_asked(w, t) {
         cancel_within(w, t, Call::CancelPoint, marks)?;

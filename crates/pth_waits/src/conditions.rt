@@ -23,7 +23,7 @@ ghost use Rattle.pth_world.specs.Leading.{Goes, StandsOnce, StandsWhere};
 ghost use Rattle.pth_world.specs.Numbering.{no_numbers};
 ghost use Rattle.pth_world.specs.Shows.{Shows, StandsFor};
 ghost use Rattle.pth_world.specs.Store.{store_of};
-ghost use Rattle.pth_world.specs.Whole.{Whole};
+ghost use Rattle.pth_world.specs.WellFormed.{WellFormed};
 
 use crate::cancellation::may_be_canceled;
 use crate::ring_waits::{claim_given, has_settled, is_claimed_ring, is_no_ring};
@@ -58,7 +58,7 @@ pub(crate) fn is_noticed<P: Program>(w: &World<P>, t: Tid, c: i64) -> bool
 
 // A thread has a seat at a condition, and one level less of its mutex.
 fn take_seat<P: Program>(w: &mut World<P>, t: Tid, c: i64, m: i64) -> Result<(), OutOfMemory>
-    requires whole { Whole w.old }
+    requires whole { WellFormed w.old }
     requires runs { w.old.scheduler.running ≡ Some t.0 }
     requires has { mutex_release_answer (store_of w.old.store).mutexes t.0 m ≡ Ok tt }
     ensures shows { OnOk result ((k : Control P P.State P.Shared) → Shows w.old k → Shows w.new (with_conditions (seat_entered c (seat_of t.0)) k)) }
@@ -77,7 +77,7 @@ fn take_seat<P: Program>(w: &mut World<P>, t: Tid, c: i64, m: i64) -> Result<(),
 
 // Claims the ring that the call was given, if any. It is there and not claimed, so only memory may be wanting.
 fn claim_free<P: Program>(w: &mut World<P>, t: Tid, ring: Option<i64>) -> Result<(), OutOfMemory>
-    requires { Whole w.old }
+    requires { WellFormed w.old }
     ensures shows { OnOk result ((k : Control P P.State P.Shared) → Shows w.old k → Shows w.new (claims t.0 ring k)) }
     ensures store { w.new.store ≡ w.old.store }
     ensures frame { Frame w.old w.new no_numbers w.old.scheduler.running false }
@@ -98,7 +98,7 @@ pub(crate) fn await_condition<P: Program>(
     m: i64,
     e: i64,
 ) -> Result<Verdict, OutOfMemory>
-    requires whole { Whole w.old }
+    requires whole { WellFormed w.old }
     requires runs { w.old.scheduler.running ≡ Some t.0 }
     ensures attempts { IfOk result (λ x. Begins w.old w.new t.0 (CondAwait c m e) (λ s. cond_await s t.0 c m e) x) }
     ensures frame { OnOk result (Frame w.old w.new no_numbers w.old.scheduler.running false) }
@@ -135,7 +135,7 @@ fn end_canceled<P: Program>(
     m: i64,
     marks: &mut Marks,
 ) -> Result<Next, OutOfMemory>
-    requires whole { Whole w.old }
+    requires whole { WellFormed w.old }
     requires runs { w.old.scheduler.running ≡ Some t.0 }
     requires object { object_named m < object_limit }
     ensures goes { Goes (StandsOnce w.old (Took t (object_named m))) (tells (Took t (object_named m)) and_then ending P.functions t.0 canceled_value and_next Ended canceled_value) w.new marks.old marks.new result }
@@ -162,7 +162,7 @@ fn answer_await<P: Program>(
     outcome: Retake,
     marks: &mut Marks,
 ) -> Result<Next, OutOfMemory>
-    requires whole { Whole w.old }
+    requires whole { WellFormed w.old }
     requires runs { w.old.scheduler.running ≡ Some t.0 }
     requires object { object_named m < object_limit }
     ensures goes { Goes (λ (s : State P P.State P.Shared). StandsOnce w.old (Took t (object_named m)) s × (s.resources.awaits t.0 ≡ true)) (retaken_as P.functions t.0 (CondAwait c m e) m outcome) w.new marks.old marks.new result }
@@ -186,7 +186,7 @@ fn wait_for_mutex<P: Program>(
     outcome: Retake,
     marks: &mut Marks,
 ) -> Result<Next, OutOfMemory>
-    requires whole { Whole w.old }
+    requires whole { WellFormed w.old }
     requires runs { w.old.scheduler.running ≡ Some t.0 }
     ensures goes { Goes (StandsFor w.old) (λ (s : State P P.State P.Shared). (changes (blocks t.0 (CondAwait c m e) (Retaking m outcome)) and_then tells (Retakes t (CondAwait c m e)) and_next Waits) s) w.new marks.old marks.new result }
     ensures frame { IfOk result (λ n. Frame w.old w.new no_numbers (runs_after t.0 n) (yields_after n)) }
@@ -215,7 +215,7 @@ fn take_back<P: Program>(
     outcome: Retake,
     marks: &mut Marks,
 ) -> Result<Next, OutOfMemory>
-    requires whole { Whole w.old }
+    requires whole { WellFormed w.old }
     requires runs { w.old.scheduler.running ≡ Some t.0 }
     ensures goes { Goes (StandsWhere w.old t.0 true) (retakes P.functions t.0 (CondAwait c m e) m outcome) w.new marks.old marks.new result }
     ensures frame { IfOk result (λ n. Frame w.old w.new no_numbers (runs_after t.0 n) (yields_after n)) }
@@ -236,7 +236,7 @@ fn end_await<P: Program>(
     outcome: Retake,
     marks: &mut Marks,
 ) -> Result<Next, OutOfMemory>
-    requires whole { Whole w.old }
+    requires whole { WellFormed w.old }
     requires runs { w.old.scheduler.running ≡ Some t.0 }
     ensures goes { Goes (StandsWhere w.old t.0 true) (ends_await P.functions t.0 nothing (CondAwait c m e) m outcome) w.new marks.old marks.new result }
     ensures frame { IfOk result (λ n. Frame w.old w.new no_numbers (runs_after t.0 n) (yields_after n)) }
@@ -256,7 +256,7 @@ fn cancel_await<P: Program>(
     e: i64,
     marks: &mut Marks,
 ) -> Result<Next, OutOfMemory>
-    requires whole { Whole w.old }
+    requires whole { WellFormed w.old }
     requires runs { w.old.scheduler.running ≡ Some t.0 }
     ensures goes { Goes (StandsWhere w.old t.0 true) (awaits_on_where P.functions t.0 true false false (CondAwait c m e) c m) w.new marks.old marks.new result }
     ensures frame { IfOk result (λ n. Frame w.old w.new no_numbers (runs_after t.0 n) (yields_after n)) }
@@ -283,7 +283,7 @@ fn leave_await<P: Program>(
     outcome: Retake,
     marks: &mut Marks,
 ) -> Result<Next, OutOfMemory>
-    requires whole { Whole w.old }
+    requires whole { WellFormed w.old }
     requires runs { w.old.scheduler.running ≡ Some t.0 }
     ensures goes { Goes (StandsWhere w.old t.0 true) (ends_await P.functions t.0 (leaves_seat t.0 (Notice c)) (CondAwait c m e) m outcome) w.new marks.old marks.new result }
     ensures frame { IfOk result (λ n. Frame w.old w.new no_numbers (runs_after t.0 n) (yields_after n)) }
@@ -317,7 +317,7 @@ pub(crate) fn resume_await<P: Program>(
     awaits: Awaits,
     marks: &mut Marks,
 ) -> Result<Next, OutOfMemory>
-    requires whole { Whole w.old }
+    requires whole { WellFormed w.old }
     requires runs { w.old.scheduler.running ≡ Some t.0 }
     ensures goes { Goes (StandsWhere w.old t.0 true) (awaits_on P.functions t.0 c m e awaits) w.new marks.old marks.new result }
     ensures frame { IfOk result (λ n. Frame w.old w.new no_numbers (runs_after t.0 n) (yields_after n)) }

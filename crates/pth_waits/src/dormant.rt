@@ -14,7 +14,7 @@ ghost use Rattle.pth_ring.specs.declared.event.Status.TheVariants.{Pending};
 ghost use Rattle.pth_threads.specs.Threads.{tid_at};
 ghost use Rattle.pth_waits.specs.Dormant.{AreFoundPending, ArePending, IsDormant, IsFoundPending, IsUndue, StaysAway, after_now, bound, deadline_in};
 ghost use Rattle.pth_world.specs.Shows.{StandsFor};
-ghost use Rattle.pth_world.specs.Whole.{MayAwait, Whole};
+ghost use Rattle.pth_world.specs.WellFormed.{MayAwait, WellFormed};
 
 use crate::barriers::has_passed;
 use crate::cancellation::may_be_canceled_at;
@@ -93,7 +93,7 @@ fn descriptors_until(k: &Kernel, awaits: Awaits) -> Micros
 
 // Until when the thread at a slot does not have what its call waits for.
 fn awaits_until<P: Program>(w: &World<P>, slot: Slot, awaits: Awaits) -> Micros
-    requires whole { Whole w.now }
+    requires whole { WellFormed w.now }
     requires used { tid_at w.now.threads.records slot.0 ≢ 0 }
     requires may { MayAwait awaits }
     ensures away { (s : State P P.State P.Shared) → StandsFor w.now s → 0 < result → StaysAway s result (tid_at w.now.threads.records slot.0) awaits }
@@ -220,7 +220,7 @@ fn ring_until<P: Program>(w: &World<P>, e: i64) -> Micros
 /// Before this moment the thread at a slot is not to wake, if nothing changes but time, and a look at its ring finds what was found
 /// before; 0 where it may be to wake now.
 pub fn dormant_until<P: Program>(w: &World<P>, slot: Slot) -> Micros
-    requires whole { Whole w.now }
+    requires whole { WellFormed w.now }
     requires used { tid_at w.now.threads.records slot.0 ≢ 0 }
     ensures dormant { (s : State P P.State P.Shared) → StandsFor w.now s → 0 < result → IsDormant s result (tid_at w.now.threads.records slot.0) }
     ensures later { (s : State P P.State P.Shared) → StandsFor w.now s → IsDormant s (after_now s.control) (tid_at w.now.threads.records slot.0) → now_of s.control < result }

@@ -15,7 +15,7 @@ ghost use Rattle.pth_world.specs.Frame.{Frame};
 ghost use Rattle.pth_world.specs.Leading.{IsReady, MayComeTo, Tries};
 ghost use Rattle.pth_world.specs.Numbering.{no_numbers};
 ghost use Rattle.pth_world.specs.Shows.{StandsFor};
-ghost use Rattle.pth_world.specs.Whole.{MayAwait, MayAwaitAs, Whole};
+ghost use Rattle.pth_world.specs.WellFormed.{MayAwait, MayAwaitAs, WellFormed};
 
 use crate::ring_waits::{claim_given, is_no_ring};
 use crate::trials::{count_or, try_awaited};
@@ -120,7 +120,7 @@ fn begin_waiting<P: Program>(
     ring: Option<i64>,
     verdict: Verdict,
 ) -> Result<Verdict, OutOfMemory>
-    requires whole { Whole w.old }
+    requires whole { WellFormed w.old }
     requires counted { IsCounted verdict }
     ensures begins { IfOk result (λ x. (s : State P P.State P.Shared) → StandsFor w.old s → is_none_in s ring ≡ false → begins_waiting s at_once ring verdict ≡ x) }
     ensures ready { IfOk result (λ x. (call : CallOf) (before s : State P P.State P.Shared) → IsSome (first_awaited before call) → StandsFor w.old s → IsReady w.new t.0 call ring x s) }
@@ -148,7 +148,7 @@ fn try_first<P: Program>(
     call: &Call,
     awaits: Awaits,
 ) -> Result<Verdict, OutOfMemory>
-    requires whole { Whole w.old }
+    requires whole { WellFormed w.old }
     requires awaits { (s : State P P.State P.Shared) → StandsFor w.old s → first_awaited s call.now ≡ Some awaits }
     requires may { MayAwaitAs t.0 call.now awaits }
     requires ring { (s : State P P.State P.Shared) → StandsFor w.old s → is_none_in s (given call.now) ≡ false }
@@ -169,7 +169,7 @@ pub(crate) fn begin_io<P: Program>(
     t: Tid,
     call: &Call,
 ) -> Result<Option<Verdict>, OutOfMemory>
-    requires whole { Whole w.old }
+    requires whole { WellFormed w.old }
     ensures attempts { IfOk result (λ o. IfSome o (λ x. Begins w.old w.new t.0 call.now (λ s. row_of P.functions s t.0 call.now) x)) }
     ensures descriptors { IfOk result (λ o. (s : State P P.State P.Shared) → StandsFor w.old s → is_some o ≡ is_some (first_awaited s call.now)) }
     ensures same { IfOk result (λ o. o ≡ None → w.new ≡ w.old) }
@@ -192,7 +192,7 @@ pub(crate) fn io_again<P: Program>(
     t: Tid,
     awaits: Awaits,
 ) -> Result<Verdict, OutOfMemory>
-    requires whole { Whole w.old }
+    requires whole { WellFormed w.old }
     requires may { MayAwait awaits }
     ensures tries { IfOk result (λ x. (call : CallOf) → ((s : State P P.State P.Shared) → IsSome (first_awaited s call)) → MayAwaitAs t.0 call awaits → Tries w.old w.new t.0 (record { call = call; awaits = awaits }) (λ s. (row_of P.functions s t.0 call).again awaits) x) }
     ensures frame { OnOk result (Frame w.old w.new no_numbers w.old.scheduler.running false) }

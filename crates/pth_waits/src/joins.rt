@@ -15,7 +15,7 @@ ghost use Rattle.pth_world.specs.Frame.{Frame};
 ghost use Rattle.pth_world.specs.Numbering.{no_numbers};
 ghost use Rattle.pth_world.specs.Shows.{Shows, StandsFor};
 ghost use Rattle.pth_world.specs.Sound.{IsSound, IsKnown};
-ghost use Rattle.pth_world.specs.Whole.{Whole, IsIn};
+ghost use Rattle.pth_world.specs.WellFormed.{WellFormed, IsIn};
 ghost use Rattle.pth_threads.specs.Threads.{number_of};
 ghost use Rattle.pth_queue.specs.declared.queue.Queue.TheVariants as queue;
 
@@ -42,7 +42,7 @@ fn is_joinable<P: Program>(w: &World<P>, t: Tid) -> bool
 
 // The thread that died first of those that can be joined.
 fn first_joinable<P: Program>(w: &World<P>) -> Option<Tid>
-    requires { Whole w.now }
+    requires { WellFormed w.now }
     ensures first { (k : Control P P.State P.Shared) → Shows w.now k → option_map number_of result ≡ first_of (joinable_dead k) }
     ensures known { IfSome result (λ t. IsKnown w.now.threads t.0) }
     ensures dead { IfSome result (λ t. IsIn queue.Dead w.now.threads t.0) }
@@ -59,7 +59,7 @@ fn first_joinable<P: Program>(w: &World<P>) -> Option<Tid>
 
 // Whom a join takes: the thread that is named, where it is dead, and for 0 the one that died first.
 fn to_join<P: Program>(w: &World<P>, n: i64) -> Option<Tid>
-    requires { Whole w.now }
+    requires { WellFormed w.now }
     ensures takes { (k : Control P P.State P.Shared) → Shows w.now k → option_map number_of result ≡ to_join_now k n }
     ensures known { IfSome result (λ t. IsKnown w.now.threads t.0) }
     ensures dead { IfSome result (λ t. IsIn queue.Dead w.now.threads t.0) }
@@ -82,7 +82,7 @@ fn to_join<P: Program>(w: &World<P>, n: i64) -> Option<Tid>
 // Why a join is refused: the caller joins itself, or anyone where nobody else is there; nobody has the number; or the thread
 // is not joinable.
 fn refusal<P: Program>(w: &World<P>, t: Tid, n: i64) -> Option<Errno>
-    requires { Whole w.now }
+    requires { WellFormed w.now }
     ensures { (s : State P P.State P.Shared) → StandsFor w.now s → (join_attempt s t.0 n).verdict ≡ refused_or result (joined s.control n (to_join_now s.control n)) }
 {
     if n == i64::from(t.0) {
@@ -109,7 +109,7 @@ fn refusal<P: Program>(w: &World<P>, t: Tid, n: i64) -> Option<Errno>
 
 // Takes a dead thread out of the system, and gives its value.
 fn take<P: Program>(w: &mut World<P>, other: Tid) -> i64
-    requires whole { Whole w.old }
+    requires whole { WellFormed w.old }
     requires known { IsKnown w.old.threads other.0 }
     requires dead { IsIn queue.Dead w.old.threads other.0 }
     ensures value { (k : Control P P.State P.Shared) (n : ℤ) → Shows w.old k → joined k n (Some other.0) ≡ Says (Int result) }
@@ -139,7 +139,7 @@ fn death_of(n: i64) -> Awaits
 /// `pth_join`, as it begins and as it is tried again: it waits until the thread is dead, takes it out of the system, and is answered
 /// with its value.
 pub(crate) fn join<P: Program>(w: &mut World<P>, t: Tid, n: i64) -> Verdict
-    requires whole { Whole w.old }
+    requires whole { WellFormed w.old }
     requires runs { w.old.scheduler.running ≡ Some t.0 }
     ensures tries { TriesAgain w.old w.new t.0 (Join n) (λ s. join_row s t.0 n) result }
     ensures frame { Frame w.old w.new no_numbers w.old.scheduler.running false }
@@ -155,7 +155,7 @@ pub(crate) fn join<P: Program>(w: &mut World<P>, t: Tid, n: i64) -> Verdict
 
 /// Whether the thread that a join names has died, or can be joined no longer.
 pub(crate) fn has_died<P: Program>(w: &World<P>, n: i64) -> bool
-    requires { Whole w.now }
+    requires { WellFormed w.now }
     ensures { (k : Control P P.State P.Shared) → Shows w.now k → result ≡ has_died_in k n }
 {
     match w.known(n) {
@@ -166,7 +166,7 @@ pub(crate) fn has_died<P: Program>(w: &World<P>, n: i64) -> bool
 
 /// Whether a thread that can be joined has died.
 pub fn any_has_died<P: Program>(w: &World<P>) -> bool
-    requires { Whole w.now }
+    requires { WellFormed w.now }
     ensures { (k : Control P P.State P.Shared) → Shows w.now k → result ≡ has_any_died k }
 {
     first_joinable(w).is_some()

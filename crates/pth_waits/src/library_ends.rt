@@ -7,7 +7,7 @@ ghost use Rattle.pth_world.specs.Frame.{Frame, runs_after, yields_after};
 ghost use Rattle.pth_world.specs.Leading.{Goes};
 ghost use Rattle.pth_world.specs.Numbering.{no_numbers};
 ghost use Rattle.pth_world.specs.Shows.{StandsFor};
-ghost use Rattle.pth_world.specs.Whole.{Whole};
+ghost use Rattle.pth_world.specs.WellFormed.{WellFormed};
 
 use pth_base::answer::Answer;
 use pth_base::call::Call;
@@ -28,7 +28,7 @@ pub fn kill<P: Program>(
     call: &Call,
     marks: &mut Marks,
 ) -> Result<Next, OutOfMemory>
-    requires whole { Whole w.old }
+    requires whole { WellFormed w.old }
     requires runs { w.old.scheduler.running ≡ Some t.0 }
     requires call { call.now ≡ Kill }
     ensures goes { Goes (StandsFor w.old) (begun P.functions t.0 call.now) w.new marks.old marks.new result }

@@ -12,7 +12,7 @@ ghost use Rattle.pth_world.specs.Frame.{Frame};
 ghost use Rattle.pth_world.specs.Leading.{IsReady};
 ghost use Rattle.pth_world.specs.Numbering.{no_numbers};
 ghost use Rattle.pth_world.specs.Shows.{StandsFor};
-ghost use Rattle.pth_world.specs.Whole.{Whole};
+ghost use Rattle.pth_world.specs.WellFormed.{WellFormed};
 
 use crate::ring_waits::wait_beside;
 use pth_base::answer::Answer;
@@ -33,7 +33,7 @@ pub(crate) fn turn_away<P: Program>(
     ring: Option<i64>,
     awaits: Awaits,
 ) -> Result<Verdict, OutOfMemory>
-    requires { Whole w.old }
+    requires { WellFormed w.old }
     ensures verdict { IfOk result (λ x. (s : State P P.State P.Shared) → StandsFor w.old s → is_no_ring s ring ≡ false → taken_or (Err errno) (refused EBUSY when only_tries || is_claimed_ring s ring otherwise Blocks awaits) ≡ x) }
     ensures ready { IfOk result (λ x. (c : Call) (s : State P P.State P.Shared) → is_await c ≡ false → StandsFor w.old s → IsReady w.new t.0 c ring x s) }
     ensures frame { Frame w.old w.new no_numbers w.old.scheduler.running false }

@@ -8,7 +8,7 @@ ghost use Rattle.pth_waits.specs.Verdicts.{Begins, TriesAgain};
 ghost use Rattle.pth_world.specs.Frame.{Frame};
 ghost use Rattle.pth_world.specs.Numbering.{no_numbers};
 ghost use Rattle.pth_world.specs.Shows.{StandsFor};
-ghost use Rattle.pth_world.specs.Whole.{Whole};
+ghost use Rattle.pth_world.specs.WellFormed.{WellFormed};
 
 use crate::locking::turn_away;
 use crate::ring_waits::is_no_ring;
@@ -39,7 +39,7 @@ pub(crate) fn acquire_mutex<P: Program>(
     v: i64,
     e: i64,
 ) -> Result<Verdict, OutOfMemory>
-    requires whole { Whole w.old }
+    requires whole { WellFormed w.old }
     requires runs { w.old.scheduler.running ≡ Some t.0 }
     ensures attempts { IfOk result (λ x. Begins w.old w.new t.0 (MutexAcquire m v e) (λ s. mutex_acquire s t.0 m v e) x) }
     ensures frame { Frame w.old w.new no_numbers w.old.scheduler.running false }
@@ -56,7 +56,7 @@ pub(crate) fn acquire_mutex<P: Program>(
 
 /// Such a call, tried again: the thread has one level of the mutex if it is free.
 pub(crate) fn acquire_mutex_again<P: Program>(w: &mut World<P>, t: Tid, m: i64) -> Verdict
-    requires whole { Whole w.old }
+    requires whole { WellFormed w.old }
     requires runs { w.old.scheduler.running ≡ Some t.0 }
     ensures tries { (v e : ℤ) → TriesAgain w.old w.new t.0 (MutexAcquire m v e) (λ s. mutex_acquire s t.0 m v e) result }
     ensures frame { Frame w.old w.new no_numbers w.old.scheduler.running false }

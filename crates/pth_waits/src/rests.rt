@@ -5,7 +5,7 @@ ghost use Rattle.pth_model.specs.State.{State};
 ghost use Rattle.pth_model.specs.Times.{length_of, rest};
 ghost use Rattle.pth_waits.specs.Rests.{IsRestVerdict};
 ghost use Rattle.pth_world.specs.Shows.{StandsFor};
-ghost use Rattle.pth_world.specs.Whole.{MayAwait};
+ghost use Rattle.pth_world.specs.WellFormed.{MayAwait};
 
 use pth_base::answer::Answer;
 use pth_base::errno::Errno;

@@ -9,14 +9,14 @@ ghost use Rattle.pth_model.specs.Changes.{blocked_of};
 ghost use Rattle.pth_model.specs.RingWaits.{has_settled, ring_given};
 ghost use Rattle.pth_model.specs.State.{State};
 ghost use Rattle.pth_model.specs.declared.blocked.Blocked.{Blocked as BlockedCall};
-ghost use Rattle.pth_end.specs.Whole.{FullWhole};
+ghost use Rattle.pth_end.specs.Whole.{Whole};
 ghost use Rattle.pth_waits.specs.Verdicts.{AwaitsNone};
 ghost use Rattle.pth_world.specs.Frame.{Frame, runs_after, yields_after};
 ghost use Rattle.pth_world.specs.Leading.{Goes, StandsRightly};
 ghost use Rattle.pth_world.specs.Numbering.{no_numbers};
 ghost use Rattle.pth_world.specs.Shows.{StandsFor};
 ghost use Rattle.pth_world.specs.Sound.{IsSound};
-ghost use Rattle.pth_world.specs.Whole.{Whole};
+ghost use Rattle.pth_world.specs.WellFormed.{WellFormed};
 
 use crate::attempts::attempt_again;
 use crate::cancellation::may_be_canceled;
@@ -47,7 +47,7 @@ fn ring_has_settled<P: Program>(w: &World<P>, t: Tid) -> bool
 // Tries the call that blocks the thread that runs again, and carries out what it comes to: if it would block on and an event of its
 // ring is settled, it is interrupted.
 fn try_again<P: Program>(w: &mut World<P>, t: Tid, marks: &mut Marks) -> Result<Next, OutOfMemory>
-    requires whole { Whole w.old }
+    requires whole { WellFormed w.old }
     requires runs { w.old.scheduler.running ≡ Some t.0 }
     requires other { AwaitsNone w.old t.0 }
     ensures goes { Goes (StandsRightly w.old t.0) (tried_again P.functions t.0) w.new marks.old marks.new result }
@@ -66,7 +66,7 @@ fn cancel_blocked<P: Program>(
     t: Tid,
     marks: &mut Marks,
 ) -> Result<Next, OutOfMemory>
-    requires whole { Whole w.old }
+    requires whole { WellFormed w.old }
     requires runs { w.old.scheduler.running ≡ Some t.0 }
     ensures goes { Goes (StandsFor w.old) (λ (s : State P P.State P.Shared). canceled_by P.functions t.0 (blocked_of s.control t.0) s) w.new marks.old marks.new result }
     ensures frame { IfOk result (λ n. Frame w.old w.new no_numbers (runs_after t.0 n) (yields_after n)) }
@@ -82,7 +82,7 @@ fn cancel_blocked<P: Program>(
 // Goes on with the thread that runs, which a call blocks other than a wait at a condition: it is canceled in the call if it may be,
 // and else the call is tried again.
 fn resume_call<P: Program>(w: &mut World<P>, t: Tid, marks: &mut Marks) -> Result<Next, OutOfMemory>
-    requires whole { Whole w.old }
+    requires whole { WellFormed w.old }
     requires runs { w.old.scheduler.running ≡ Some t.0 }
     requires other { AwaitsNone w.old t.0 }
     ensures goes { Goes (StandsRightly w.old t.0) (λ (s : State P P.State P.Shared). gone_on_where P.functions t.0 (may_be_canceled_in s.control t.0) s) w.new marks.old marks.new result }
@@ -97,11 +97,11 @@ fn resume_call<P: Program>(w: &mut World<P>, t: Tid, marks: &mut Marks) -> Resul
 /// Goes on with the thread that runs, which a call blocks. A wait at a condition goes on by itself; in any other call the thread is
 /// canceled if it may be ([`may_be_canceled`]), and else the call is tried again. After an error the world may only be dropped.
 pub fn resume<P: Program>(w: &mut World<P>, t: Tid, marks: &mut Marks) -> Result<Next, OutOfMemory>
-    requires whole { Whole w.old }
+    requires whole { WellFormed w.old }
     requires runs { w.old.scheduler.running ≡ Some t.0 }
     ensures goes { Goes (StandsRightly w.old t.0) (gone_on P.functions t.0) w.new marks.old marks.new result }
     ensures frame { IfOk result (λ n. Frame w.old w.new no_numbers (runs_after t.0 n) (yields_after n)) }
-    ensures keeps { OnOk result (FullWhole w.old → FullWhole w.new) }
+    ensures keeps { OnOk result (Whole w.old → Whole w.new) }
 {
     let Some(blocked) = w.blocked(t) else {
         return Ok(Next::Waits);

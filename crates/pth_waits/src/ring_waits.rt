@@ -19,7 +19,7 @@ ghost use Rattle.pth_world.specs.Frame.{Frame};
 ghost use Rattle.pth_world.specs.Leading.{IsReady};
 ghost use Rattle.pth_world.specs.Numbering.{no_numbers};
 ghost use Rattle.pth_world.specs.Shows.{Shows, StandsFor};
-ghost use Rattle.pth_world.specs.Whole.{Whole};
+ghost use Rattle.pth_world.specs.WellFormed.{WellFormed};
 
 use pth_base::answer::Answer;
 use pth_base::ids::Tid;
@@ -67,7 +67,7 @@ pub(crate) fn claim_given<P: Program>(
     t: Tid,
     ring: Option<i64>,
 ) -> Result<(), Refusal>
-    requires { Whole w.old }
+    requires { WellFormed w.old }
     ensures answer { (s : State P P.State P.Shared) → StandsFor w.old s → is_no_ring s ring ≡ false → AnswersWithMemory (if is_claimed_ring s ring then Err EBUSY else Ok tt) result }
     ensures shows { OnOk result ((k : Control P P.State P.Shared) → Shows w.old k → Shows w.new (claims t.0 ring k)) }
     ensures store { w.new.store ≡ w.old.store }
@@ -87,7 +87,7 @@ pub(crate) fn wait_beside<P: Program>(
     ring: Option<i64>,
     awaits: Awaits,
 ) -> Result<Verdict, OutOfMemory>
-    requires { Whole w.old }
+    requires { WellFormed w.old }
     ensures verdict { IfOk result (λ x. (s : State P P.State P.Shared) → StandsFor w.old s → is_no_ring s ring ≡ false → (refused EBUSY when is_claimed_ring s ring otherwise Blocks awaits) ≡ x) }
     ensures ready { IfOk result (λ x. (c : Call) (s : State P P.State P.Shared) → is_await c ≡ false → StandsFor w.old s → IsReady w.new t.0 c ring x s) }
     ensures frame { Frame w.old w.new no_numbers w.old.scheduler.running false }
@@ -102,7 +102,7 @@ pub(crate) fn wait_beside<P: Program>(
 /// `pth_wait`: claims the ring of an event, and waits until an event of it is not pending, also if one was found before. EINVAL if
 /// there is no such event, and EBUSY if its ring is claimed.
 pub(crate) fn wait<P: Program>(w: &mut World<P>, t: Tid, e: i64) -> Result<Verdict, OutOfMemory>
-    requires whole { Whole w.old }
+    requires whole { WellFormed w.old }
     ensures attempts { IfOk result (λ x. Begins w.old w.new t.0 (Wait e) (λ s. wait s e) x) }
     ensures frame { Frame w.old w.new no_numbers w.old.scheduler.running false }
 {

@@ -7,7 +7,7 @@ ghost use Rattle.pth_model.specs.Verdict.{counts_or};
 ghost use Rattle.pth_model.specs.declared.verdict.Verdict.TheVariants.{Says};
 ghost use Rattle.pth_io.specs.Answered.{answered};
 ghost use Rattle.pth_model.specs.Coming.{descriptors_bring};
-ghost use Rattle.pth_world.specs.Whole.{MayAwait};
+ghost use Rattle.pth_world.specs.WellFormed.{MayAwait};
 
 use pth_base::answer::Answer;
 use pth_base::errno::Errno;

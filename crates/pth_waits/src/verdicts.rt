@@ -11,7 +11,7 @@ ghost use Rattle.pth_world.specs.Frame.{Frame, runs_after, yields_after};
 ghost use Rattle.pth_world.specs.Leading.{Goes, IsReady, MayComeTo};
 ghost use Rattle.pth_world.specs.Numbering.{no_numbers};
 ghost use Rattle.pth_world.specs.Shows.{Shows};
-ghost use Rattle.pth_world.specs.Whole.{Whole};
+ghost use Rattle.pth_world.specs.WellFormed.{WellFormed};
 
 use crate::blocks::{answer_blocked, block, block_on};
 use crate::trials::count_or;
@@ -37,7 +37,7 @@ pub fn carry_out<P: Program>(
     verdict: Verdict,
     marks: &mut Marks,
 ) -> Result<Next, OutOfMemory>
-    requires whole { Whole w.old }
+    requires whole { WellFormed w.old }
     requires runs { w.old.scheduler.running ≡ Some t.0 }
     requires may { MayComeTo t.0 call verdict }
     ensures goes { Goes (IsReady w.old t.0 call (ring_given call) verdict) (begun_by P.functions t.0 call verdict) w.new marks.old marks.new result }
@@ -89,7 +89,7 @@ pub(crate) fn carry_on<P: Program>(
     verdict: Verdict,
     marks: &mut Marks,
 ) -> Result<Next, OutOfMemory>
-    requires whole { Whole w.old }
+    requires whole { WellFormed w.old }
     requires runs { w.old.scheduler.running ≡ Some t.0 }
     requires some { (k : Control P P.State P.Shared) → Shows w.old k → IsSome (blocked_of k t.0) }
     requires may { (k : Control P P.State P.Shared) → Shows w.old k → IfSome (blocked_of k t.0) (λ b. MayComeTo t.0 b.call verdict) }

@@ -9,7 +9,7 @@ ghost use Rattle.pth_model.specs.State.{Control, State};
 ghost use Rattle.pth_threads.specs.Threads.{tid_at};
 ghost use Rattle.pth_model.specs.Coming.{has_any_died, has_come};
 ghost use Rattle.pth_world.specs.Shows.{Shows, StandsFor};
-ghost use Rattle.pth_world.specs.Whole.{Whole, MayAwait};
+ghost use Rattle.pth_world.specs.WellFormed.{WellFormed, MayAwait};
 
 use crate::barriers::has_passed;
 use crate::cancellation::may_be_canceled_at;
@@ -26,7 +26,7 @@ use pth_world::world::World;
 
 // Whether what the thread at a slot waits for has come. `any_dead` tells whether a thread that can be joined has died.
 fn has_come<P: Program>(w: &World<P>, slot: Slot, awaits: Awaits, any_dead: bool) -> bool
-    requires whole { Whole w.now }
+    requires whole { WellFormed w.now }
     requires used { tid_at w.now.threads.records slot.0 ≢ 0 }
     requires dead { (k : Control P P.State P.Shared) → Shows w.now k → any_dead ≡ has_any_died k }
     requires may { MayAwait awaits }
@@ -51,7 +51,7 @@ fn has_come<P: Program>(w: &World<P>, slot: Slot, awaits: Awaits, any_dead: bool
 /// Whether the call that blocks a thread has what it waits for; false if no call blocks it. The events of a ring are not asked, so
 /// it is false of every `pth_wait`: they are told as they are looked at (`is_to_wake`).
 pub fn wakes<P: Program>(w: &World<P>, t: Tid) -> bool
-    requires { Whole w.now }
+    requires { WellFormed w.now }
     ensures { (s : State P P.State P.Shared) → StandsFor w.now s → result ≡ wakes t.0 s }
 {
     match w.threads().find(t) {
@@ -63,7 +63,7 @@ pub fn wakes<P: Program>(w: &World<P>, t: Tid) -> bool
 // Whether what the blocked thread at a slot waits for has come, where the events of the ring for which it waits are looked at, if it
 // waits for one.
 fn has_come_for<P: Program>(w: &mut World<P>, slot: Slot, any_dead: bool) -> bool
-    requires whole { Whole w.old }
+    requires whole { WellFormed w.old }
     requires used { tid_at w.old.threads.records slot.0 ≢ 0 }
     requires dead { (k : Control P P.State P.Shared) → Shows w.old k → any_dead ≡ has_any_died k }
     ensures shows { (s : State P P.State P.Shared) → StandsFor w.old s
@@ -84,7 +84,7 @@ fn has_come_for<P: Program>(w: &mut World<P>, slot: Slot, any_dead: bool) -> boo
 /// Whether the blocked thread at a slot is to wake, where the events of the ring for which it waits are looked at, if it waits for
 /// one. `any_dead` tells whether a thread that can be joined has died.
 pub fn is_to_wake<P: Program>(w: &mut World<P>, slot: Slot, any_dead: bool) -> bool
-    requires whole { Whole w.old }
+    requires whole { WellFormed w.old }
     requires used { tid_at w.old.threads.records slot.0 ≢ 0 }
     requires dead { (k : Control P P.State P.Shared) → Shows w.old k → any_dead ≡ has_any_died k }
     ensures shows { (s : State P P.State P.Shared) → StandsFor w.old s

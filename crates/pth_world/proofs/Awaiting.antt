@@ -8,7 +8,7 @@ use Rattle.pth_model.specs.declared.awaits.Awaits.{Awaits}
 use Rattle.pth_model.specs.declared.awaits.Awaits.TheVariants.{Death, AnyDeath, Moment, Writing, Selection, Notice, Retaking}
 use Rattle.pth_model.specs.declared.blocked.Blocked.{Blocked}
 use Rattle.pth_model.specs.Awaits.{awaits_in}
-use Rattle.pth_world.specs.Whole.{IsMoment, IsSelection, IsWriting, MayAwait, MayAwaitAs, MayBlock, IsAwait}
+use Rattle.pth_world.specs.WellFormed.{IsMoment, IsSelection, IsWriting, MayAwait, MayAwaitAs, MayBlock, IsAwait}
 
 death_may : (zero : Bool) (n : ℤ) → MayAwait (if zero then AnyDeath else Death n)
 death_may true n = tt

@@ -7,7 +7,7 @@ use Rattle.pth_model.specs.State.{Control}
 use Rattle.pth_world.specs.Frame.{Frame}
 use Rattle.pth_world.specs.Numbering.{Thread, Object, Event, Port, Numbers}
 use Rattle.pth_world.specs.Shows.{Shows}
-use Rattle.pth_world.specs.Whole.{Whole}
+use Rattle.pth_world.specs.WellFormed.{WellFormed}
 use Rattle.pth_world.specs.World.{WorldOf}
 
 -- where events alone change, what they show is what counts
@@ -15,10 +15,10 @@ module _ {P S H : Type 0} (w : WorldOf P S H) (e : RingsOf) where
   pub events_show : (k : Control P S H) (x : Events) → Shows w k → x ≡ events_of e → Shows (record w { events = e }) (record k { events = x })
   events_show k x sh is = record { program = sh.program; shared = sh.shared; threads = sh.threads; attributes = sh.attributes; events = is; conditions = sh.conditions; barriers = sh.barriers; kernel = sh.kernel; used = sh.used; scheduler = sh.scheduler }
 
-  pub events_whole : Whole w → Whole (record w { events = e })
+  pub events_whole : WellFormed w → WellFormed (record w { events = e })
   events_whole whole = record { sound = whole.sound; fits = whole.fits; runner = whole.runner; stored = whole.stored; top = whole.top }
 
-  pub events_frame : (n : Numbers) → Whole w → e.made ≤ w.events.made + n Event → Frame w (record w { events = e }) n w.scheduler.running false
+  pub events_frame : (n : Numbers) → WellFormed w → e.made ≤ w.events.made + n Event → Frame w (record w { events = e }) n w.scheduler.running false
   events_frame n whole few = record {
     whole = events_whole whole;
     runs = refl;

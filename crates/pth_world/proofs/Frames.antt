@@ -1,7 +1,7 @@
 -- Frames of calls, one after another.
 use Rattle.std.proofs.Common.{◌≡◌, ℕ, ◌≤◌, Bool, true, false, Option, inl, inr, refl, ap, sym, subst, ◌∙◌, arith}
 use Rattle.pth_world.specs.World.{WorldOf}
-use Rattle.pth_world.specs.Whole.{Whole}
+use Rattle.pth_world.specs.WellFormed.{WellFormed}
 use Rattle.pth_world.specs.Frame.{Frame, Names}
 use Rattle.pth_world.specs.Keeps.{MovesThreads}
 use Rattle.pth_world.specs.Numbering.{Kind, Thread, Object, Event, Port, Numbers, no_numbers, one_of, GivesAtMost, GivesNone}
@@ -26,7 +26,7 @@ module _ {P S H : Type 0} where
   pub gives_none : (n : Numbers) (w v : WorldOf P S H) → GivesNone w v → GivesAtMost n w v
   gives_none n w v none k = let e = none k in omega arith
 
-  pub still_frame : (n : Numbers) (w : WorldOf P S H) (r : Option ℕ) → w.scheduler.running ≡ r → Whole w → Frame w w n r false
+  pub still_frame : (n : Numbers) (w : WorldOf P S H) (r : Option ℕ) → w.scheduler.running ≡ r → WellFormed w → Frame w w n r false
   still_frame n w r is whole = record {
     whole = whole;
     runs = is;
@@ -35,7 +35,7 @@ module _ {P S H : Type 0} where
     preferred = refl;
   }
 
-  pub refused_frame : (n : Numbers) (w v : WorldOf P S H) (r : Option ℕ) → w.scheduler.running ≡ r → Whole w → v ≡ w → Frame w v n r false
+  pub refused_frame : (n : Numbers) (w v : WorldOf P S H) (r : Option ℕ) → w.scheduler.running ≡ r → WellFormed w → v ≡ w → Frame w v n r false
   refused_frame n w v r is whole same = subst (λ (z : WorldOf P S H). Frame w z n r false) (sym same) (still_frame n w r is whole)
 
   -- threads have moved

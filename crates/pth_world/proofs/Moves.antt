@@ -21,7 +21,7 @@ use Rattle.pth_model.specs.Resources.{Store, store_without}
 use Rattle.pth_model.specs.ThreadControl.{may_run}
 use Rattle.pth_world.specs.Store.{StoreOf, store_of, HasNothing}
 use Rattle.pth_world.specs.Sound.{IsSound, IsKnown, IsAlive, HasPrio, lives}
-use Rattle.pth_world.specs.Whole.{View, view, Fits, FitsEntry, Whole, WholeBut, IsRunner, IsIn, IsBefore, Newly, Waiting, IsAbout, CanSuspend, MayBlock, MayStandIn, StoresAlive, WaitsToRun, OfNew, OfReady, place_for}
+use Rattle.pth_world.specs.WellFormed.{View, view, Fits, FitsEntry, WellFormed, WellFormedBut, IsRunner, IsIn, IsBefore, Newly, Waiting, IsAbout, CanSuspend, MayBlock, MayStandIn, StoresAlive, WaitsToRun, OfNew, OfReady, place_for}
 use Rattle.pth_world.specs.Touches.{Touches, SameThreads, view_changed, view_placed, view_blocked}
 use Rattle.pth_world.proofs.Slots.{name_is, used, some_is}
 use Rattle.pth_world.proofs.Places.{queue-without}
@@ -71,7 +71,7 @@ stores_as : {P S H : Type 0} (w v : WorldOf P S H) (r : ℕ) → v.store ≡ w.s
 stores_as w v r store entry stored dead = subst (λ (y : StoreOf). HasNothing (store_of y) r) (sym store) (stored (sym (ap lives entry) ∙ dead))
 
 -- by its slot
-own_stored : {P S H : Type 0} (w : WorldOf P S H) (t u : ℕ) → Whole w → slot_of w.threads.records t ≡ Some u → lives (view w.threads u).entry ≡ false → HasNothing (store_of w.store) t
+own_stored : {P S H : Type 0} (w : WorldOf P S H) (t u : ℕ) → WellFormed w → slot_of w.threads.records t ≡ Some u → lives (view w.threads u).entry ≡ false → HasNothing (store_of w.store) t
 own_stored w t u whole e dead = whole.stored t (ap lives (seen_at None (slot_of w.threads.records) (entry_at w.threads.records) t u e) ∙ dead)
 
 -- a state that is not that of a dead thread
@@ -93,7 +93,7 @@ left_stored w v t r sound store slots others stored dead = subst (λ (s : Store)
         nothing_without (store_of w.store) t r (stored apart (sym (ap lives (entry_kept w.threads v.threads t r sound (slots r apart) others apart)) ∙ dead))
 
 -- a change of a thread that leaves it fitting, and the others
-module _ {P S H : Type 0} (w v : WorldOf P S H) (t u : ℕ) (g : View → View) (whole : Whole w) (e : slot_of w.threads.records t ≡ Some u) (touches : Touches w.threads v.threads t g) (own : Fits v.scheduler.running (g (view w.threads u))) (others : (i : ℕ) → tid_at w.threads.records i ≢ t → Fits w.scheduler.running (view w.threads i) → Fits v.scheduler.running (view w.threads i)) where
+module _ {P S H : Type 0} (w v : WorldOf P S H) (t u : ℕ) (g : View → View) (whole : WellFormed w) (e : slot_of w.threads.records t ≡ Some u) (touches : Touches w.threads v.threads t g) (own : Fits v.scheduler.running (g (view w.threads u))) (others : (i : ℕ) → tid_at w.threads.records i ≢ t → Fits w.scheduler.running (view w.threads i) → Fits v.scheduler.running (view w.threads i)) where
   at_slot : (i : ℕ) → tid_at w.threads.records i ≡ t → i ≡ u
   at_slot i is = some_is (sym (whole.sound.tied.slot i (λ zero. used w.threads t u whole.sound e (name_is w.threads t u whole.sound e ∙ sym is ∙ zero))) ∙ ap (slot_of w.threads.records) is ∙ e)
 
@@ -101,7 +101,7 @@ module _ {P S H : Type 0} (w v : WorldOf P S H) (t u : ℕ) (g : View → View) 
   fits_by i true is = subst (λ (k : ℕ). Fits v.scheduler.running (view v.threads k)) (sym (at_slot i (same_means _ t is))) (subst (λ (k : View). Fits v.scheduler.running k) (sym (touches.own u e)) own)
   fits_by i false is = subst (λ (k : View). Fits v.scheduler.running k) (sym (touches.others i (same_fails _ t is))) (others i (same_fails _ t is) (whole.fits i))
 
-  pub whole_from : IsSound v.threads → IsRunner v → slot_of v.threads.records ≡ slot_of w.threads.records → v.store ≡ w.store → v.attributes ≡ w.attributes → (lives (g (view w.threads u)).entry ≡ false → HasNothing (store_of w.store) t) → Whole v
+  pub whole_from : IsSound v.threads → IsRunner v → slot_of v.threads.records ≡ slot_of w.threads.records → v.store ≡ w.store → v.attributes ≡ w.attributes → (lives (g (view w.threads u)).entry ≡ false → HasNothing (store_of w.store) t) → WellFormed v
   whole_from sound runner slots store objects stored = record {
     sound = sound;
     fits = λ i. fits_by i (tid_at w.threads.records i == t) refl;
@@ -164,7 +164,7 @@ known_slot None known = absurd (cc known)
 pub is_in : {P S H : Type 0} (w : WorldOf P S H) (q : Queue) (t u : ℕ) → IsIn q w.threads t → slot_of w.threads.records t ≡ Some u → queue_of u w.threads.queues ≡ Some q
 is_in w q t u h e = subst (λ (o : Option ℕ). IfSome o (λ i. queue_of i w.threads.queues ≡ Some q)) e h
 
-pub make_ready_whole : {P S H : Type 0} (w m v : WorldOf P S H) (t : ℕ) (q : Queue) → Whole w → IsKnown w.threads t → IsBefore q → IsIn q w.threads t → Touches w.threads m.threads t (view_placed None) → m ≡ record w { threads = record w.threads { queues = m.threads.queues; waits = m.threads.waits } } → Touches m.threads v.threads t (λ k. view_placed (Some queue.Ready) (view_changed (change.State state.Ready) k)) → SameThreads m.threads v.threads → v.scheduler.running ≡ m.scheduler.running → v.store ≡ m.store → v.attributes ≡ m.attributes → IsSound v.threads → Whole v
+pub make_ready_whole : {P S H : Type 0} (w m v : WorldOf P S H) (t : ℕ) (q : Queue) → WellFormed w → IsKnown w.threads t → IsBefore q → IsIn q w.threads t → Touches w.threads m.threads t (view_placed None) → m ≡ record w { threads = record w.threads { queues = m.threads.queues; waits = m.threads.waits } } → Touches m.threads v.threads t (λ k. view_placed (Some queue.Ready) (view_changed (change.State state.Ready) k)) → SameThreads m.threads v.threads → v.scheduler.running ≡ m.scheduler.running → v.store ≡ m.store → v.attributes ≡ m.attributes → IsSound v.threads → WellFormed v
 make_ready_whole w m v t q whole known b stands left same entered kept runs store objects sound =
     let slot = known_slot (slot_of w.threads.records t) known in
     let all = queues_alone w m same in
@@ -219,11 +219,11 @@ running_at r t (Some e) p h is named some f =
     record { entry = e; has = refl; tid = named; state = running; awake = awake; nowhere = f.placed ∙ ap (λ (s : ThreadState). place_for s e.suspended) running ∙ ap (place_for state.Running) awake }
 
 -- whoever runs is in the system, runs by its record, and stands nowhere
-pub runner_runs : {P S H : Type 0} (w : WorldOf P S H) (t u : ℕ) → Whole w → w.scheduler.running ≡ Some t → slot_of w.threads.records t ≡ Some u → IsRunning t (view w.threads u)
+pub runner_runs : {P S H : Type 0} (w : WorldOf P S H) (t u : ℕ) → WellFormed w → w.scheduler.running ≡ Some t → slot_of w.threads.records t ≡ Some u → IsRunning t (view w.threads u)
 unfolding tid_at
 runner_runs w t u whole is e = running_at w.scheduler.running t (entry_at w.threads.records u) _ _ is (name_is w.threads t u whole.sound e) (λ zero. used w.threads t u whole.sound e (name_is w.threads t u whole.sound e ∙ zero)) (whole.fits u)
 
-pub runner_known : {P S H : Type 0} (w : WorldOf P S H) (t : ℕ) → Whole w → w.scheduler.running ≡ Some t → IsKnown w.threads t
+pub runner_known : {P S H : Type 0} (w : WorldOf P S H) (t : ℕ) → WellFormed w → w.scheduler.running ≡ Some t → IsKnown w.threads t
 runner_known w t whole is = subst (λ (o : Option ℕ). IfSome o (IsKnown w.threads)) is whole.runner
 
 -- it is ready again, or waits
@@ -253,7 +253,7 @@ runs_by t n (Some e) p h stands named f =
     ready_awake s true h = absurd (cc h)
     ready_awake s false h = refl
 
-module _ {P S H : Type 0} (w v : WorldOf P S H) (t : ℕ) (whole : Whole w) (is : w.scheduler.running ≡ Some t) (rests : v.scheduler.running ≡ None) (sound : IsSound v.threads) (slots : slot_of v.threads.records ≡ slot_of w.threads.records) (store : v.store ≡ w.store) (objects : v.attributes ≡ w.attributes) where
+module _ {P S H : Type 0} (w v : WorldOf P S H) (t : ℕ) (whole : WellFormed w) (is : w.scheduler.running ≡ Some t) (rests : v.scheduler.running ≡ None) (sound : IsSound v.threads) (slots : slot_of v.threads.records ≡ slot_of w.threads.records) (store : v.store ≡ w.store) (objects : v.attributes ≡ w.attributes) where
   slot_t : (u : ℕ) × (slot_of w.threads.records t ≡ Some u)
   slot_t = known_slot (slot_of w.threads.records t) (runner_known w t whole is)
 
@@ -269,10 +269,10 @@ module _ {P S H : Type 0} (w v : WorldOf P S H) (t : ℕ) (whole : Whole w) (is 
   own_fits : FitsEntry (Some t) (view w.threads slot_t.0).entry None (view w.threads slot_t.0).blocked
   own_fits = subst (λ (p : Option Queue). FitsEntry (Some t) (view w.threads slot_t.0).entry p (view w.threads slot_t.0).blocked) runs_t.nowhere (subst (λ (r : Option ℕ). Fits r (view w.threads slot_t.0)) is (whole.fits slot_t.0))
 
-  pub back_whole : Touches w.threads v.threads t (λ k. view_placed (Some queue.Ready) (view_changed (change.State state.Ready) k)) → Whole v
+  pub back_whole : Touches w.threads v.threads t (λ k. view_placed (Some queue.Ready) (view_changed (change.State state.Ready) k)) → WellFormed v
   back_whole touches = whole_from w v t slot_t.0 _ whole slot_t.1 touches (fits_same None v.scheduler.running _ rests (back_by t runs_t.entry (view w.threads slot_t.0).entry (view w.threads slot_t.0).blocked runs_t.has runs_t.awake own_fits)) others_rest sound no_runner slots store objects (λ dead. own_stored w t slot_t.0 whole slot_t.1 (lives_set state.Ready (view w.threads slot_t.0).entry refl dead))
 
-  pub waits_whole : Touches w.threads v.threads t (λ k. view_placed (Some queue.Waiting) (view_changed (change.State state.Waiting) k)) → Whole v
+  pub waits_whole : Touches w.threads v.threads t (λ k. view_placed (Some queue.Waiting) (view_changed (change.State state.Waiting) k)) → WellFormed v
   waits_whole touches = whole_from w v t slot_t.0 _ whole slot_t.1 touches (fits_same None v.scheduler.running _ rests (waits_by t runs_t.entry (view w.threads slot_t.0).entry (view w.threads slot_t.0).blocked runs_t.has runs_t.awake own_fits)) others_rest sound no_runner slots store objects (λ dead. own_stored w t slot_t.0 whole slot_t.1 (lives_set state.Waiting (view w.threads slot_t.0).entry refl dead))
 
 lives_counted : (n : ℕ) (o : Option Entry) → lives o ≡ lives (option_map (changed (change.Dispatches n)) o)
@@ -281,7 +281,7 @@ lives_counted n (Some d) = refl
 lives_counted n None = refl
 
 -- a dispatch
-pub runs_whole : {P S H : Type 0} (w v : WorldOf P S H) (t n : ℕ) → Whole w → IsKnown w.threads t → IsIn queue.Ready w.threads t → w.scheduler.running ≡ None → v.scheduler.running ≡ Some t → IsSound v.threads → slot_of v.threads.records ≡ slot_of w.threads.records → v.store ≡ w.store → v.attributes ≡ w.attributes → Touches w.threads v.threads t (λ k. view_changed (change.Dispatches n) (view_changed (change.State state.Running) (view_placed None k))) → Whole v
+pub runs_whole : {P S H : Type 0} (w v : WorldOf P S H) (t n : ℕ) → WellFormed w → IsKnown w.threads t → IsIn queue.Ready w.threads t → w.scheduler.running ≡ None → v.scheduler.running ≡ Some t → IsSound v.threads → slot_of v.threads.records ≡ slot_of w.threads.records → v.store ≡ w.store → v.attributes ≡ w.attributes → Touches w.threads v.threads t (λ k. view_changed (change.Dispatches n) (view_changed (change.State state.Running) (view_placed None k))) → WellFormed v
 unfolding tid_at
 runs_whole w v t n whole known stands nobody runs sound slots store objects touches =
     let slot = known_slot (slot_of w.threads.records t) known in
@@ -292,7 +292,7 @@ runs_whole w v t n whole known stands nobody runs sound slots store objects touc
     sound (subst (λ (o : Option ℕ). IfSome o (IsKnown v.threads)) (sym runs) (rw slots known)) slots store objects
     (λ dead. own_stored w t slot.0 whole slot.1 (lives_set state.Running (view w.threads slot.0).entry refl (lives_counted n (option_map (changed (change.State state.Running)) (view w.threads slot.0).entry) ∙ dead)))
 
-pub runner_nowhere : {P S H : Type 0} (w : WorldOf P S H) (t : ℕ) → Whole w → w.scheduler.running ≡ Some t → IfSome (slot_of w.threads.records t) (λ u. IsNowhere u w.threads.queues)
+pub runner_nowhere : {P S H : Type 0} (w : WorldOf P S H) (t : ℕ) → WellFormed w → w.scheduler.running ≡ Some t → IfSome (slot_of w.threads.records t) (λ u. IsNowhere u w.threads.queues)
 runner_nowhere w t whole is =
     let slot = known_slot (slot_of w.threads.records t) (runner_known w t whole is) in
     subst (λ (o : Option ℕ). IfSome o (λ u. IsNowhere u w.threads.queues)) (sym slot.1) (runner_runs w t slot.0 whole is slot.1).nowhere
@@ -306,7 +306,7 @@ pub left_nowhere : {P S H : Type 0} (w m : WorldOf P S H) (t : ℕ) → SameThre
 left_nowhere w m t same h = rw same.slots (if_some (λ u. m.threads.queues ≡ without u w.threads.queues) (λ u. IsNowhere u m.threads.queues) (slot_of w.threads.records t) (λ u is. ap (queue_of u) is ∙ queue-without u w.threads.queues) h)
 
 -- a change of what a thread goes on with, which leaves it fitting
-pub progress_whole : {P S H : Type 0} (w v : WorldOf P S H) (t u : ℕ) (g : View → View) → Whole w → slot_of w.threads.records t ≡ Some u → Touches w.threads v.threads t g → IsSound v.threads → slot_of v.threads.records ≡ slot_of w.threads.records → v.scheduler.running ≡ w.scheduler.running → v.store ≡ w.store → v.attributes ≡ w.attributes → ((r : Option ℕ) → Fits r (view w.threads u) → Fits r (g (view w.threads u))) → (lives (g (view w.threads u)).entry ≡ false → lives (view w.threads u).entry ≡ false) → Whole v
+pub progress_whole : {P S H : Type 0} (w v : WorldOf P S H) (t u : ℕ) (g : View → View) → WellFormed w → slot_of w.threads.records t ≡ Some u → Touches w.threads v.threads t g → IsSound v.threads → slot_of v.threads.records ≡ slot_of w.threads.records → v.scheduler.running ≡ w.scheduler.running → v.store ≡ w.store → v.attributes ≡ w.attributes → ((r : Option ℕ) → Fits r (view w.threads u) → Fits r (g (view w.threads u))) → (lives (g (view w.threads u)).entry ≡ false → lives (view w.threads u).entry ≡ false) → WellFormed v
 progress_whole w v t u g whole e touches sound slots running store objects fits alive =
     whole_from w v t u g whole e touches (fits_same w.scheduler.running v.scheduler.running (g (view w.threads u)) running (fits w.scheduler.running (whole.fits u)))
     (λ i apart f. fits_same w.scheduler.running v.scheduler.running (view w.threads i) running f)
@@ -368,12 +368,12 @@ unfolding changed
 dead_by t n r None p b own f = tt
 dead_by t n r (Some e) p b own f = record { prio = f.prio; placed = refl; runs = λ is. absurd ((other_runs t r e.tid.0 is).1 own); named = λ is. absurd (cc is); awake = λ is. absurd (cc is); calls = f.calls }
 
-module _ {P S H : Type 0} (w v : WorldOf P S H) (t u : ℕ) (whole : Whole w) (e : slot_of w.threads.records t ≡ Some u) (rests : v.scheduler.running ≡ other_than t w.scheduler.running) where
+module _ {P S H : Type 0} (w v : WorldOf P S H) (t u : ℕ) (whole : WellFormed w) (e : slot_of w.threads.records t ≡ Some u) (rests : v.scheduler.running ≡ other_than t w.scheduler.running) where
   others_stop : (i : ℕ) → tid_at w.threads.records i ≢ t → Fits w.scheduler.running (view w.threads i) → Fits v.scheduler.running (view w.threads i)
   unfolding tid_at
   others_stop i apart f = fits_same (other_than t w.scheduler.running) v.scheduler.running (view w.threads i) rests (stopped_fits w.scheduler.running t (entry_at w.threads.records i) _ _ apart f)
 
-  pub dead_whole : (n : ℤ) (sound : IsSound v.threads) → v.store ≡ w.store → v.attributes ≡ w.attributes → HasNothing (store_of w.store) t → slot_of v.threads.records ≡ slot_of w.threads.records → Touches w.threads v.threads t (λ k. view_placed (Some queue.Dead) (view_changed (change.Value n) (view_changed (change.Suspended false) (view_changed (change.State state.Dead) (view_placed None k))))) → Whole v
+  pub dead_whole : (n : ℤ) (sound : IsSound v.threads) → v.store ≡ w.store → v.attributes ≡ w.attributes → HasNothing (store_of w.store) t → slot_of v.threads.records ≡ slot_of w.threads.records → Touches w.threads v.threads t (λ k. view_placed (Some queue.Dead) (view_changed (change.Value n) (view_changed (change.Suspended false) (view_changed (change.State state.Dead) (view_placed None k))))) → WellFormed v
   unfolding tid_at
   dead_whole n sound store objects nothing slots touches =
       whole_from w v t u _ whole e touches
@@ -400,7 +400,7 @@ module _ {P S H : Type 0} (w v : WorldOf P S H) (t u : ℕ) (whole : Whole w) (e
     still_known : (x : ℕ) → x ≢ t → IsKnown w.threads x → IsKnown v.threads x
     still_known x apart known = rw (same_slot x apart) known
 
-    pub gone_whole : IsSound v.threads → Whole v
+    pub gone_whole : IsSound v.threads → WellFormed v
     gone_whole sound = record {
       sound = sound;
       fits = λ i. gone_fits i (tid_at w.threads.records i == t) refl;
@@ -421,7 +421,7 @@ unfolding changed
 lives_moved b (Some d) = refl
 lives_moved b None = refl
 
-pub moved_whole : {P S H : Type 0} (w v : WorldOf P S H) (t u : ℕ) (q : Queue) (b : Bool) → Whole w → slot_of w.threads.records t ≡ Some u → IfSome (entry_in w.threads t) (λ e. MayStandIn q b e.state) → Touches w.threads v.threads t (λ k. view_placed (Some q) (view_changed (change.Suspended b) (view_placed None k))) → slot_of v.threads.records ≡ slot_of w.threads.records → v.scheduler.running ≡ w.scheduler.running → v.store ≡ w.store → v.attributes ≡ w.attributes → IsSound v.threads → Whole v
+pub moved_whole : {P S H : Type 0} (w v : WorldOf P S H) (t u : ℕ) (q : Queue) (b : Bool) → WellFormed w → slot_of w.threads.records t ≡ Some u → IfSome (entry_in w.threads t) (λ e. MayStandIn q b e.state) → Touches w.threads v.threads t (λ k. view_placed (Some q) (view_changed (change.Suspended b) (view_placed None k))) → slot_of v.threads.records ≡ slot_of w.threads.records → v.scheduler.running ≡ w.scheduler.running → v.store ≡ w.store → v.attributes ≡ w.attributes → IsSound v.threads → WellFormed v
 moved_whole w v t u q b whole e may touches slots running store objects sound =
     let there = subst (λ (o : Option Entry). IfSome o (λ d. MayStandIn q b d.state)) (seen_at None (slot_of w.threads.records) (entry_at w.threads.records) t u e) may in
     progress_whole w v t u (λ k. view_placed (Some q) (view_changed (change.Suspended b) (view_placed None k))) whole e touches sound slots running store objects
@@ -437,7 +437,7 @@ suspended_by : (r : Option ℕ) (o : Option Entry) (p : Option Queue) (h : Optio
 suspended_by r None p h suspended f = tt
 suspended_by r (Some e) p h suspended f = f.awake suspended
 
-module _ {P S H : Type 0} (w : WorldOf P S H) (t u : ℕ) (whole : Whole w) (e : slot_of w.threads.records t ≡ Some u) (suspended : IfSome (entry_in w.threads t) (λ d. d.suspended ≡ true)) where
+module _ {P S H : Type 0} (w : WorldOf P S H) (t u : ℕ) (whole : WellFormed w) (e : slot_of w.threads.records t ≡ Some u) (suspended : IfSome (entry_in w.threads t) (λ d. d.suspended ≡ true)) where
   entry_here : entry_in w.threads t ≡ entry_at w.threads.records u
   entry_here = seen_at None (slot_of w.threads.records) (entry_at w.threads.records) t u e
 
@@ -471,13 +471,13 @@ rests_still t (Some x) other = rests_by t x (x == t) refl other
 
 -- ---- what records say of where threads stand
 
-fits_at : {P S H : Type 0} (w : WorldOf P S H) (t u : ℕ) (e : Entry) → Whole w → slot_of w.threads.records t ≡ Some u → Some e ≡ entry_in w.threads t → FitsEntry w.scheduler.running (Some e) (view w.threads u).place (view w.threads u).blocked
+fits_at : {P S H : Type 0} (w : WorldOf P S H) (t u : ℕ) (e : Entry) → WellFormed w → slot_of w.threads.records t ≡ Some u → Some e ≡ entry_in w.threads t → FitsEntry w.scheduler.running (Some e) (view w.threads u).place (view w.threads u).blocked
 fits_at w t u e whole at is =
     let there : entry_at w.threads.records u ≡ Some e = sym (is ∙ seen_at None (slot_of w.threads.records) (entry_at w.threads.records) t u at) in
     subst (λ (o : Option Entry). FitsEntry w.scheduler.running o (view w.threads u).place (view w.threads u).blocked) there (whole.fits u)
 
 -- one that is new or ready, and not suspended, waits to run
-pub waits_to_run : {P S H : Type 0} (w : WorldOf P S H) (t : ℕ) (e : Entry) → Whole w → IsKnown w.threads t → Some e ≡ entry_in w.threads t → (e.suspended || not (may_run e.state)) ≡ false → WaitsToRun w.threads t
+pub waits_to_run : {P S H : Type 0} (w : WorldOf P S H) (t : ℕ) (e : Entry) → WellFormed w → IsKnown w.threads t → Some e ≡ entry_in w.threads t → (e.suspended || not (may_run e.state)) ≡ false → WaitsToRun w.threads t
 waits_to_run w t e whole known is may =
     let slot = known_slot (slot_of w.threads.records t) known in
     by_state slot.0 slot.1 e.state e.suspended may (fits_at w t slot.0 e whole slot.1 is).placed
@@ -492,7 +492,7 @@ waits_to_run w t e whole known is may =
     by_state u e s false may place = absurd (cc may)
 
 -- a thread that stands in a queue does not run
-pub queued_rests : {P S H : Type 0} (w : WorldOf P S H) (t : ℕ) (q : Queue) → Whole w → IsIn q w.threads t → w.scheduler.running ≢ Some t
+pub queued_rests : {P S H : Type 0} (w : WorldOf P S H) (t : ℕ) (q : Queue) → WellFormed w → IsIn q w.threads t → w.scheduler.running ≢ Some t
 queued_rests w t q whole stands is = by_slot (slot_of w.threads.records t) (runner_known w t whole is) stands (runner_nowhere w t whole is)
   where
     by_slot : (o : Option ℕ) → IsSome o → IfSome o (λ u. queue_of u w.threads.queues ≡ Some q) → IfSome o (λ u. IsNowhere u w.threads.queues) → ⊥
@@ -500,7 +500,7 @@ queued_rests w t q whole stands is = by_slot (slot_of w.threads.records t) (runn
     by_slot None known there nowhere = cc known
 
 -- a dead thread stands in the dead queue
-pub dead_stands : {P S H : Type 0} (w : WorldOf P S H) (e : Entry) → Whole w → IsKnown w.threads e.tid.0 → Some e ≡ entry_in w.threads e.tid.0 → is_dead e.state ≡ true → IsIn queue.Dead w.threads e.tid.0
+pub dead_stands : {P S H : Type 0} (w : WorldOf P S H) (e : Entry) → WellFormed w → IsKnown w.threads e.tid.0 → Some e ≡ entry_in w.threads e.tid.0 → is_dead e.state ≡ true → IsIn queue.Dead w.threads e.tid.0
 dead_stands w e whole known is dead =
     let slot = known_slot (slot_of w.threads.records e.tid.0) known in
     let fits = fits_at w e.tid.0 slot.0 e whole slot.1 is in
@@ -513,7 +513,7 @@ dead_stands w e whole known is dead =
     by_state s b dead awake = absurd (cc dead)
 
 -- who stands there is dead
-dead_in : {P S H : Type 0} (w : WorldOf P S H) (t : ℕ) → Whole w → IsKnown w.threads t → IsIn queue.Dead w.threads t → lives (entry_in w.threads t) ≡ false
+dead_in : {P S H : Type 0} (w : WorldOf P S H) (t : ℕ) → WellFormed w → IsKnown w.threads t → IsIn queue.Dead w.threads t → lives (entry_in w.threads t) ≡ false
 dead_in w t whole known stands =
     let slot = known_slot (slot_of w.threads.records t) known in
     ap lives (seen_at None (slot_of w.threads.records) (entry_at w.threads.records) t slot.0 slot.1)
@@ -532,18 +532,18 @@ dead_in w t whole known stands =
     by_entry r (Some e) p b stands f = ap not (by_state e.state e.suspended (sym f.placed ∙ stands))
 
 -- so it has nothing stored
-pub dead_nothing : {P S H : Type 0} (w : WorldOf P S H) (t : ℕ) → Whole w → IsKnown w.threads t → IsIn queue.Dead w.threads t → HasNothing (store_of w.store) t
+pub dead_nothing : {P S H : Type 0} (w : WorldOf P S H) (t : ℕ) → WellFormed w → IsKnown w.threads t → IsIn queue.Dead w.threads t → HasNothing (store_of w.store) t
 dead_nothing w t whole known stands = whole.stored t (dead_in w t whole known stands)
 
 -- whoever runs is alive
-pub runner_alive : {P S H : Type 0} (w : WorldOf P S H) (t : ℕ) → Whole w → w.scheduler.running ≡ Some t → IsAlive w.threads t
+pub runner_alive : {P S H : Type 0} (w : WorldOf P S H) (t : ℕ) → WellFormed w → w.scheduler.running ≡ Some t → IsAlive w.threads t
 runner_alive w t whole is =
     let slot = known_slot (slot_of w.threads.records t) (runner_known w t whole is) in
     let runs = runner_runs w t slot.0 whole is slot.1 in
     ap lives (seen_at None (slot_of w.threads.records) (entry_at w.threads.records) t slot.0 slot.1 ∙ runs.has) ∙ ap (λ (s : ThreadState). not (is_dead s)) runs.state
 
 -- another thread that is neither dead nor suspended may be suspended
-pub can_suspend : {P S H : Type 0} (w : WorldOf P S H) (t : ℕ) (e : Entry) → Whole w → w.scheduler.running ≡ Some t → IsKnown w.threads e.tid.0 → Some e ≡ entry_in w.threads e.tid.0 → (e.tid.0 == t || is_dead e.state || e.suspended) ≡ false → IfSome (entry_in w.threads e.tid.0) (λ d. CanSuspend d.state)
+pub can_suspend : {P S H : Type 0} (w : WorldOf P S H) (t : ℕ) (e : Entry) → WellFormed w → w.scheduler.running ≡ Some t → IsKnown w.threads e.tid.0 → Some e ≡ entry_in w.threads e.tid.0 → (e.tid.0 == t || is_dead e.state || e.suspended) ≡ false → IfSome (entry_in w.threads e.tid.0) (λ d. CanSuspend d.state)
 can_suspend w t e whole runs known is may =
     let slot = known_slot (slot_of w.threads.records e.tid.0) known in
     rw (← is) (by_state e.state may (fits_at w e.tid.0 slot.0 e whole slot.1 is).named)
@@ -564,7 +564,7 @@ can_suspend w t e whole runs known is may =
 -- ---- all but one thread
 
 -- t is gone, whoever runs
-pub gone_but : {P S H : Type 0} (w v : WorldOf P S H) (t u : ℕ) → slot_of w.threads.records t ≡ Some u → ((i : ℕ) → tid_at w.threads.records i ≢ t → view v.threads i ≡ view w.threads i) → RemovesThread w.threads.records v.threads.records u → IsSound v.threads → v.scheduler.running ≡ w.scheduler.running → store_of v.store ≡ store_without t (store_of w.store) → v.attributes ≡ w.attributes → v.threads.queues.top ≡ w.threads.queues.top → WholeBut w t → WholeBut v t
+pub gone_but : {P S H : Type 0} (w v : WorldOf P S H) (t u : ℕ) → slot_of w.threads.records t ≡ Some u → ((i : ℕ) → tid_at w.threads.records i ≢ t → view v.threads i ≡ view w.threads i) → RemovesThread w.threads.records v.threads.records u → IsSound v.threads → v.scheduler.running ≡ w.scheduler.running → store_of v.store ≡ store_without t (store_of w.store) → v.attributes ≡ w.attributes → v.threads.queues.top ≡ w.threads.queues.top → WellFormedBut w t → WellFormedBut v t
 gone_but w v t u e others gone sound running store objects tops but = record {
   sound = sound;
   fits = λ i apart. fits_by i (tid_at w.threads.records i == t) refl;
@@ -591,7 +591,7 @@ gone_but w v t u e others gone sound running store objects tops but = record {
 
 module _ {P S H : Type 0} (w v : WorldOf P S H) (t : ℕ) where
   -- a change of t alone, whoever runs
-  pub but_kept : (g : View → View) → Touches w.threads v.threads t g → SameThreads w.threads v.threads → v.scheduler.running ≡ w.scheduler.running → v.store ≡ w.store → v.attributes ≡ w.attributes → IsSound v.threads → WholeBut w t → WholeBut v t
+  pub but_kept : (g : View → View) → Touches w.threads v.threads t g → SameThreads w.threads v.threads → v.scheduler.running ≡ w.scheduler.running → v.store ≡ w.store → v.attributes ≡ w.attributes → IsSound v.threads → WellFormedBut w t → WellFormedBut v t
   but_kept g touches same running store objects sound but = record {
     sound = sound;
     fits = λ i apart. (
@@ -603,7 +603,7 @@ module _ {P S H : Type 0} (w v : WorldOf P S H) (t : ℕ) where
   }
 
 -- where none but t runs, before and after
-pub rerun_but : {P S H : Type 0} (w v : WorldOf P S H) (t : ℕ) → v.threads ≡ w.threads → v.store ≡ w.store → v.attributes ≡ w.attributes → IsAbout w.scheduler.running t → IsAbout v.scheduler.running t → WholeBut w t → WholeBut v t
+pub rerun_but : {P S H : Type 0} (w v : WorldOf P S H) (t : ℕ) → v.threads ≡ w.threads → v.store ≡ w.store → v.attributes ≡ w.attributes → IsAbout w.scheduler.running t → IsAbout v.scheduler.running t → WellFormedBut w t → WellFormedBut v t
 rerun_but w v t same store objects before after but = record {
   sound = rw same but.sound;
   fits = rw same (λ i apart. rerun_others w v.scheduler.running t before after i apart (but.fits i apart));
@@ -617,7 +617,7 @@ rerun_but w v t same store objects before after but = record {
     about_runs (Some r) about = λ apart. absurd (apart (about r refl))
 
 -- each thread has a base priority of a world
-pub whole_prio : {P S H : Type 0} (w : WorldOf P S H) (t : ℕ) → Whole w → HasPrio (entry_in w.threads t)
+pub whole_prio : {P S H : Type 0} (w : WorldOf P S H) (t : ℕ) → WellFormed w → HasPrio (entry_in w.threads t)
 unfolding seen
 whole_prio w t whole = by_slots (slot_of w.threads.records t)
   where
@@ -630,7 +630,7 @@ whole_prio w t whole = by_slots (slot_of w.threads.records t)
     by_slots (Some u) = by_entry u (entry_at w.threads.records u) (whole.fits u)
 
 -- the call that blocks a thread is one that may
-pub blocked_may : {P S H : Type 0} (w : WorldOf P S H) (t u : ℕ) → Whole w → slot_of w.threads.records t ≡ Some u → IfSome (view w.threads u).blocked (λ b. MayBlock t b)
+pub blocked_may : {P S H : Type 0} (w : WorldOf P S H) (t u : ℕ) → WellFormed w → slot_of w.threads.records t ≡ Some u → IfSome (view w.threads u).blocked (λ b. MayBlock t b)
 unfolding tid_at
 blocked_may w t u whole e = by_entry (entry_at w.threads.records u) (view w.threads u).place (view w.threads u).blocked (name_is w.threads t u whole.sound e) (whole.fits u)
   where

@@ -7,7 +7,7 @@ use Rattle.pth_queue.specs.Queues.{queue_of}
 use Rattle.pth_threads.specs.Threads.{slot_of, tid_at}
 use Rattle.pth_world.specs.World.{WorldOf, ThreadsBySlot}
 use Rattle.pth_world.specs.Sound.{IsSound}
-use Rattle.pth_world.specs.Whole.{View, view, Whole, IsRunnable, OfReady, WaitsToRun}
+use Rattle.pth_world.specs.WellFormed.{View, view, WellFormed, IsRunnable, OfReady, WaitsToRun}
 use Rattle.pth_world.specs.Touches.{Touches}
 use Rattle.pth_world.proofs.Slots.{name_is}
 use Rattle.pth_world.proofs.Moves.{known_slot, runner_runs}
@@ -54,7 +54,7 @@ pub among_ready : IsAmong (Some queue.Ready)
 among_ready = (queue.Ready, OfReady, refl)
 
 -- whoever runs is not among them
-pub runner_apart : {P S H : Type 0} (w : WorldOf P S H) (t i : ℕ) (Q : Type 0) → Whole w → w.scheduler.running ≡ Some t → slot_of w.threads.records t ≡ Some i → IsAmong (view w.threads i).place → Q
+pub runner_apart : {P S H : Type 0} (w : WorldOf P S H) (t i : ℕ) (Q : Type 0) → WellFormed w → w.scheduler.running ≡ Some t → slot_of w.threads.records t ≡ Some i → IsAmong (view w.threads i).place → Q
 runner_apart w t i Q whole is at a =
     let nowhere = (runner_runs w t i whole is at).nowhere in
     let stands = a.2 in

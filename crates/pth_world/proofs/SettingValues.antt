@@ -24,7 +24,7 @@ use Rattle.pth_world.specs.Numbering.{Thread, Object, Event, Port, Numbers, no_n
 use Rattle.pth_world.specs.Shows.{Shows, ShowsThreads}
 use Rattle.pth_world.specs.Sound.{IsSound, IsKnown, IsAlive, IsPrio, KeepsPrio, lives}
 use Rattle.pth_world.specs.Touches.{Touches, SameThreads, IsAside, view_changed}
-use Rattle.pth_world.specs.Whole.{Whole, FitsEntry, Fits, View, view}
+use Rattle.pth_world.specs.WellFormed.{WellFormed, FitsEntry, Fits, View, view}
 use Rattle.pth_world.specs.World.{WorldOf, ThreadsBySlot}
 use Rattle.pth_world.proofs.Moves.{progress_whole}
 use Rattle.pth_world.proofs.Showing.{of_threads, change_shows}
@@ -35,10 +35,10 @@ use Rattle.pth_world.proofs.Views.{change_touches}
 -- ---- objects alone
 
 module _ {P S H : Type 0} (w : WorldOf P S H) (y : AttrsOf) where
-  pub objects_whole : y.top ≡ w.attributes.top → Whole w → Whole (record w { attributes = y })
+  pub objects_whole : y.top ≡ w.attributes.top → WellFormed w → WellFormed (record w { attributes = y })
   objects_whole same whole = record { sound = whole.sound; fits = whole.fits; runner = whole.runner; stored = whole.stored; top = same ∙ whole.top }
 
-  pub objects_frame : (n : Numbers) → Whole w → y.top ≡ w.attributes.top → y.objects.made ≤ w.attributes.objects.made + n Object → Frame w (record w { attributes = y }) n w.scheduler.running false
+  pub objects_frame : (n : Numbers) → WellFormed w → y.top ≡ w.attributes.top → y.objects.made ≤ w.attributes.objects.made + n Object → Frame w (record w { attributes = y }) n w.scheduler.running false
   objects_frame n whole same few = record {
     whole = objects_whole same whole;
     runs = refl;
@@ -105,13 +105,13 @@ module _ {P S H : Type 0} (w : WorldOf P S H) (r : ThreadsOf) where
   abbrev with_records : WorldOf P S H
   with_records = record w { threads = record w.threads { records = r } }
 
-  field_whole : (t u : ℕ) (c : Change) → IsAside c → KeepsPrio c → Whole w → slot_of w.threads.records t ≡ Some u → Touches w.threads with_records.threads t (view_changed c) → IsSound with_records.threads → slot_of r ≡ slot_of w.threads.records → Whole with_records
+  field_whole : (t u : ℕ) (c : Change) → IsAside c → KeepsPrio c → WellFormed w → slot_of w.threads.records t ≡ Some u → Touches w.threads with_records.threads t (view_changed c) → IsSound with_records.threads → slot_of r ≡ slot_of w.threads.records → WellFormed with_records
   field_whole t u c aside keeps whole at touches sound slots =
       progress_whole w with_records t u (view_changed c) whole at touches sound slots refl refl refl
       (λ q f. aside_fits c aside keeps q (view w.threads u).entry (view w.threads u).place (view w.threads u).blocked f)
       (λ dead. aside_lives c aside (view w.threads u).entry ∙ dead)
 
-  pub field_frame : (t u : ℕ) (c : Change) → IsAside c → KeepsPrio c → Whole w → slot_of w.threads.records t ≡ Some u → Touches w.threads with_records.threads t (view_changed c) → IsSound with_records.threads → SameThreads w.threads with_records.threads → Frame w with_records no_numbers w.scheduler.running false
+  pub field_frame : (t u : ℕ) (c : Change) → IsAside c → KeepsPrio c → WellFormed w → slot_of w.threads.records t ≡ Some u → Touches w.threads with_records.threads t (view_changed c) → IsSound with_records.threads → SameThreads w.threads with_records.threads → Frame w with_records no_numbers w.scheduler.running false
   field_frame t u c aside keeps whole at touches sound same = record {
     whole = field_whole t u c aside keeps whole at touches sound same.slots;
     runs = refl;
@@ -121,7 +121,7 @@ module _ {P S H : Type 0} (w : WorldOf P S H) (r : ThreadsOf) where
   }
 
 -- a field of a thread in the system was set
-pub known_frame : {P S H : Type 0} (w v : WorldOf P S H) (t : ℕ) (c : Change) → IsAside c → KeepsPrio c → Whole w → IsKnown w.threads t → Touches w.threads v.threads t (view_changed c) → IsSound v.threads → SameThreads w.threads v.threads → v ≡ record w { threads = record w.threads { records = v.threads.records } } → Frame w v no_numbers w.scheduler.running false
+pub known_frame : {P S H : Type 0} (w v : WorldOf P S H) (t : ℕ) (c : Change) → IsAside c → KeepsPrio c → WellFormed w → IsKnown w.threads t → Touches w.threads v.threads t (view_changed c) → IsSound v.threads → SameThreads w.threads v.threads → v ≡ record w { threads = record w.threads { records = v.threads.records } } → Frame w v no_numbers w.scheduler.running false
 known_frame {P = P} {S = S} {H = H} w v t c aside keeps whole known touches sound same is = by_slot (slot_of w.threads.records t) refl known
   where
     threads : v.threads ≡ record w.threads { records = v.threads.records }
@@ -191,7 +191,7 @@ module _ {P S H : Type 0} (w : WorldOf P S H) (x : AttrsOf) (r : ThreadsOf) (a :
     | Port ↦ omega arith
   ]
 
-  set_whole : (o : Option Attribute) → is_none o ≡ false → Sets w.attributes x w.threads.records r (number a) v o → Whole w → Whole after
+  set_whole : (o : Option Attribute) → is_none o ≡ false → Sets w.attributes x w.threads.records r (number a) v o → WellFormed w → WellFormed after
   set_whole None some s whole = absurd (cc some)
   set_whole (Some (Free y)) some s whole = rw s.1 (objects_whole w x s.0.top whole)
   set_whole (Some (Bound t)) some s whole =
@@ -201,7 +201,7 @@ module _ {P S H : Type 0} (w : WorldOf P S H) (x : AttrsOf) (r : ThreadsOf) (a :
       let fits = λ (q : Option ℕ) (f : Fits q (view w.threads set.slot)). aside_fits set.change (meant_aside v set.change set.meant) keeps q (view w.threads set.slot).entry (view w.threads set.slot).place (view w.threads set.slot).blocked f in
       progress_whole w after t.0 set.slot (view_changed set.change) whole set.found (change_touches w.threads whole.sound t.0 set.slot set.found r set.change set.changes) sound set.changes.slots refl refl s.0 fits (λ dead. aside_lives set.change (meant_aside v set.change set.meant) (view w.threads set.slot).entry ∙ dead)
 
-  pub set_frame : (o : Option Attribute) → is_none o ≡ false → Sets w.attributes x w.threads.records r (number a) v o → Whole w → Frame w after no_numbers w.scheduler.running false
+  pub set_frame : (o : Option Attribute) → is_none o ≡ false → Sets w.attributes x w.threads.records r (number a) v o → WellFormed w → Frame w after no_numbers w.scheduler.running false
   set_frame o some s whole = record {
     whole = set_whole o some s whole;
     runs = refl;

@@ -19,7 +19,7 @@ use Rattle.pth_model.specs.Changes.{entry_of, holders}
 use Rattle.pth_model.specs.Living.{is_dead}
 use Rattle.pth_model.specs.ThreadControl.{is_dead_in}
 use Rattle.pth_world.specs.Shows.{Shows}
-use Rattle.pth_world.specs.Whole.{CanSuspend, FitsEntry, Whole, place_for}
+use Rattle.pth_world.specs.WellFormed.{CanSuspend, FitsEntry, WellFormed, place_for}
 use Rattle.pth_world.specs.World.{WorldOf}
 
 -- the queue of a thread by its record
@@ -78,7 +78,7 @@ dead_in_place (Some e) is = by_state e.state e.suspended is
     by_state state.Running false is = absurd (cc is)
     by_state state.Waiting false is = absurd (cc is)
 
-module _ {P S H : Type 0} (w : WorldOf P S H) (whole : Whole w) (k : Control P S H) (sh : Shows w k) where
+module _ {P S H : Type 0} (w : WorldOf P S H) (whole : WellFormed w) (k : Control P S H) (sh : Shows w k) where
   abbrev name : ℕ → ℕ
   name = tid_at w.threads.records
 

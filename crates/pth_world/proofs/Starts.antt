@@ -50,7 +50,7 @@ use Rattle.pth_tables.specs.Waits.{WaitsOf, KeptWaits, waits_of, no_waits}
 use Rattle.pth_tables.specs.Counts.{Counts, IsCounted}
 use Rattle.pth_tables.proofs.CountsKept.{counts_start}
 use Rattle.pth_world.specs.Sound.{IsSound, IsKnown}
-use Rattle.pth_world.specs.Whole.{IsBeforeReady, Newly, view, Fits, FitsEntry, Whole}
+use Rattle.pth_world.specs.WellFormed.{IsBeforeReady, Newly, view, Fits, FitsEntry, WellFormed}
 use Rattle.pth_world.proofs.Showing.{not_known}
 use Rattle.pth_world.proofs.Places.{queue-entered}
 use Rattle.pth_lock.specs.Mutexes.{MutexTable, no_mutexes}
@@ -148,7 +148,7 @@ module _ {P S H : Type 0} (f : P → Functions S H) (program : P) (top : ℕ) (r
   no_fit : (v : ℕ) → Fits None (view x0 v)
   no_fit v = subst (λ (o : Option Entry). FitsEntry None o (view x0 v).place (view x0 v).blocked) (sym (ap (λ (k : ℕ → Option Entry). k v) entries)) tt
 
-  pub before_whole : Whole w0
+  pub before_whole : WellFormed w0
   before_whole = record { sound = sound0; fits = no_fit; runner = tt; stored = λ t dead. nothing_at (store_of w0.store) t before_store; top = same_top }
 
   pub begins_empty : 0 < (f program).bodies → IsBeforeMain f (record { program = program; kernel = kernel_of kernel; top = top }) w0

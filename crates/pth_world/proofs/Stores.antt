@@ -24,7 +24,7 @@ use Rattle.pth_world.specs.World.{WorldOf, ThreadsBySlot, entry_in}
 use Rattle.pth_world.specs.Keeps.{KeepsAllButStore}
 use Rattle.pth_world.specs.Shows.{Shows}
 use Rattle.pth_world.specs.Sound.{IsAlive, IsKnown, lives}
-use Rattle.pth_world.specs.Whole.{Whole}
+use Rattle.pth_world.specs.WellFormed.{WellFormed}
 use Rattle.pth_lock.specs.Mutexes.{Mutex, MutexTable, mutexes_left, no_mutexes}
 use Rattle.pth_lock.specs.RwLocks.{LockTables, locks_left, no_locks}
 use Rattle.pth_model.proofs.Nothing.{NoMutex, NoLock, no_mutex_left, no_mutex_more, no_lock_left, no_lock_more}
@@ -283,7 +283,7 @@ nothing_ported s t x q h = record { cleanups = h.cleanups; values = h.values; mu
 -- ---- a world in which something else is stored
 
 module _ {P S H : Type 0} (w : WorldOf P S H) where
-  pub stored_whole : (y : StoreOf) → ((u : ℕ) → lives (entry_in w.threads u) ≡ false → HasNothing (store_of w.store) u → HasNothing (store_of y) u) → Whole w → Whole (record w { store = y })
+  pub stored_whole : (y : StoreOf) → ((u : ℕ) → lives (entry_in w.threads u) ≡ false → HasNothing (store_of w.store) u → HasNothing (store_of y) u) → WellFormed w → WellFormed (record w { store = y })
   stored_whole y keeps whole = record { sound = whole.sound; fits = whole.fits; runner = whole.runner; stored = λ u dead. keeps u dead (whole.stored u dead); top = whole.top }
 
   pub stored_shows : (y : StoreOf) (k : Control P S H) → Shows w k → Shows (record w { store = y }) k
@@ -298,7 +298,7 @@ pub ports_keep : {P S H : Type 0} (w : WorldOf P S H) (x : PortsOf) → x.made �
 ports_keep w x made = stored_keeps w (record w.store { ports = x }) made (λ u dead h. nothing_ported (store_of w.store) u (names_of x) (mail_of x) h)
 
 -- a slot that is not used holds nothing
-pub spare_nothing : {P S H : Type 0} (w : WorldOf P S H) → Whole w → HasNothing (store_of w.store) 0
+pub spare_nothing : {P S H : Type 0} (w : WorldOf P S H) → WellFormed w → HasNothing (store_of w.store) 0
 spare_nothing w whole = whole.stored 0 (ap lives (seen_unknown None (slot_of w.threads.records) (entry_at w.threads.records) 0 whole.sound.tied.zero))
 
 -- another thread than one that is alive

@@ -36,7 +36,7 @@ use Rattle.pth_world.specs.Store.{store_of, HasNothing}
 use Rattle.pth_world.specs.World.{WorldOf}
 use Rattle.pth_world.specs.Shows.{Shows}
 use Rattle.pth_world.specs.Sound.{IsSound, IsKnown, lives}
-use Rattle.pth_world.specs.Whole.{view, FitsEntry, Whole, IsIn, place_for}
+use Rattle.pth_world.specs.WellFormed.{view, FitsEntry, WellFormed, IsIn, place_for}
 use Rattle.pth_world.specs.Vanishing.{ReadsAlone, ShowsRest, Vanishing}
 use Rattle.pth_world.proofs.Slots.{name_is, used, some_is}
 use Rattle.pth_world.proofs.Places.{queue-nowhere}
@@ -168,7 +168,7 @@ shorter q s x y stands is =
 still_empty : (q : Queue) (s : ℕ) (x y : QueuesOf) → y ≡ without s x → rows_of q x ≡ [] → rows_of q y ≡ []
 still_empty q s x y is none = ap (rows_of q) is ∙ rows_without q s x ∙ ap (delete s) none
 
-module _ {P S H : Type 0} (w v : WorldOf P S H) (u : ℕ) (q : Queue) (whole : Whole w) (known : IsKnown w.threads u) (stands : IsIn q w.threads u)
+module _ {P S H : Type 0} (w v : WorldOf P S H) (u : ℕ) (q : Queue) (whole : WellFormed w) (known : IsKnown w.threads u) (stands : IsIn q w.threads u)
     (queues : IfSome (slot_of w.threads.records u) (λ s. v.threads.queues ≡ without s w.threads.queues)) where
   slot : (s : ℕ) × (slot_of w.threads.records u ≡ Some s)
   slot = known_slot (slot_of w.threads.records u) known
@@ -213,7 +213,7 @@ module _ {P S H : Type 0} (w v : WorldOf P S H) (u : ℕ) (q : Queue) (whole : W
 
 module _ {P S H : Type 0} where
   -- nobody vanishes
-  pub vanish_none : (w : WorldOf P S H) → Whole w → Vanishing w w
+  pub vanish_none : (w : WorldOf P S H) → WellFormed w → Vanishing w w
   vanish_none w whole = record {
     whole = whole;
     shows = λ t is k sh. record { rest = k; shows = sh; same = refl };
@@ -255,7 +255,7 @@ nobody_by r t i (Some e) p b is some apart named none f =
     let runs : r ≡ Some e.tid.0 = f.named (place_none e.state e.suspended (sym f.placed ∙ none)) in
     apart (sym named ∙ some_is (sym runs ∙ is))
 
-module _ {P S H : Type 0} (w : WorldOf P S H) (t : ℕ) (whole : Whole w) (is : w.scheduler.running ≡ Some t) (none : (q : Queue) → rows_of q w.threads.queues ≡ []) where
+module _ {P S H : Type 0} (w : WorldOf P S H) (t : ℕ) (whole : WellFormed w) (is : w.scheduler.running ≡ Some t) (none : (q : Queue) → rows_of q w.threads.queues ≡ []) where
   nowhere : (s : ℕ) → queue_of s w.threads.queues ≡ None
   nowhere s = queue-nowhere s w.threads.queues (λ q. ap (holds s) (none q))
 

@@ -17,7 +17,7 @@ use Rattle.pth_model.specs.Changes.{blocked_in, owing, blocking}
 use Rattle.pth_tables.specs.Waits.{KeptWaits}
 use Rattle.pth_world.specs.World.{ThreadsBySlot}
 use Rattle.pth_world.specs.Sound.{IsSound}
-use Rattle.pth_world.specs.Whole.{View, view}
+use Rattle.pth_world.specs.WellFormed.{View, view}
 use Rattle.pth_world.specs.Touches.{Touches, view_changed, view_placed, view_blocked, same_view}
 use Rattle.pth_world.proofs.Slots.{used, other_slot, some_is}
 use Rattle.pth_world.proofs.Places.{queue-entered, queue-entered_other, queue-without, queue-without_other, queue-raised}

@@ -14,7 +14,7 @@ use Rattle.pth_queue.proofs.Sets.{count-head}
 use Rattle.pth_threads.specs.Threads.{slot_of, tid_at, number_of}
 use Rattle.pth_world.specs.World.{ThreadsBySlot}
 use Rattle.pth_world.specs.Sound.{IsSound, IsKnown}
-use Rattle.pth_world.specs.Whole.{IsIn}
+use Rattle.pth_world.specs.WellFormed.{IsIn}
 use Rattle.pth_world.specs.Touches.{SameThreads}
 use Rattle.pth_world.specs.Walks.{rows_behind, behind}
 use Rattle.pth_world.proofs.Slots.{name_is}

@@ -26,7 +26,7 @@ use Rattle.pth_tables.specs.Waits.{KeptWaits, waits_of}
 use Rattle.pth_world.specs.World.{WorldOf, ThreadsBySlot, entry_in}
 use Rattle.pth_world.specs.Shows.{Shows, ShowsThreads}
 use Rattle.pth_world.specs.Sound.{IsSound, IsKnown, IsPrio, lives}
-use Rattle.pth_world.specs.Whole.{View, view, Fits, FitsEntry, StoresAlive, Whole, WholeBut}
+use Rattle.pth_world.specs.WellFormed.{View, view, Fits, FitsEntry, StoresAlive, WellFormed, WellFormedBut}
 use Rattle.pth_world.specs.Touches.{Touches, same_view}
 use Rattle.pth_tables.specs.StepsAt.{StepsAt}
 use Rattle.pth_world.proofs.Moves.{progress_whole, but_kept}
@@ -131,14 +131,14 @@ module _ {P S H : Type 0} (w v : WorldOf P S H) (t u : ℕ) (sound : IsSound w.t
   pub next_touches : Touches w.threads v.threads t same_view
   next_touches = subst (λ z. Touches w.threads z t same_view) (sym threads_are) (called_touches w.threads sound t u e v.threads.progress p (after p.owed) stood.1 refl goes)
 
-  pub next_whole : Whole w → Whole v
+  pub next_whole : WellFormed w → WellFormed v
   next_whole whole = progress_whole w v t u same_view whole e next_touches next_sound (ap (λ (z : ThreadsBySlot S). slot_of z.records) threads_are) (ap (λ (z : WorldOf P S H). z.scheduler.running) same) (ap (λ (z : WorldOf P S H). z.store) same) (ap (λ (z : WorldOf P S H). z.attributes) same) (λ r f. f) (λ dead. dead)
 
-  pub next_but : WholeBut w t → WholeBut v t
+  pub next_but : WellFormedBut w t → WellFormedBut v t
   next_but = but_kept w v t same_view next_touches (record { slots = ap (λ (z : ThreadsBySlot S). slot_of z.records) threads_are; tids = ap (λ (z : ThreadsBySlot S). tid_at z.records) threads_are; made = ap (λ (z : ThreadsBySlot S). z.records.made) threads_are }) (ap (λ (z : WorldOf P S H). z.scheduler.running) same) (ap (λ (z : WorldOf P S H). z.store) same) (ap (λ (z : WorldOf P S H). z.attributes) same) next_sound
 
 -- a new thread
-module _ {P S H : Type 0} (w : WorldOf P S H) (whole : Whole w) (x : ThreadsOf) (y : List (Option (Progress S))) (z : QueuesOf) (n : KeptWaits) (u : ℕ) (of : NewThread) (prio : IsPrio of.prio) (c : Progress S) (bare : c.blocked ≡ None) (adds : AddsThread w.threads.records x u (made_of of (w.threads.records.made + 1))) (has : table None y ≡ put (table None w.threads.progress) u (Some c)) (long : length y ≡ thread_limit) (placed : z ≡ entered queue.New of.prio u w.threads.queues) (waits : waits_of n ≡ waits_of w.threads.waits) where
+module _ {P S H : Type 0} (w : WorldOf P S H) (whole : WellFormed w) (x : ThreadsOf) (y : List (Option (Progress S))) (z : QueuesOf) (n : KeptWaits) (u : ℕ) (of : NewThread) (prio : IsPrio of.prio) (c : Progress S) (bare : c.blocked ≡ None) (adds : AddsThread w.threads.records x u (made_of of (w.threads.records.made + 1))) (has : table None y ≡ put (table None w.threads.progress) u (Some c)) (long : length y ≡ thread_limit) (placed : z ≡ entered queue.New of.prio u w.threads.queues) (waits : waits_of n ≡ waits_of w.threads.waits) where
   abbrev t : ℕ
   t = w.threads.records.made + 1
 
@@ -226,7 +226,7 @@ module _ {P S H : Type 0} (w : WorldOf P S H) (whole : Whole w) (x : ThreadsOf) 
       absurd (cc (alive, dead))
   stored_by r false is dead = whole.stored r (ap lives (sym (entry_old r (same_fails r t is))) ∙ dead)
 
-  pub spawn_whole : Whole all
+  pub spawn_whole : WellFormed all
   spawn_whole = record { sound = all_sound; top = whole.top ∙ sym (ap (λ (q : QueuesOf). q.top) placed); fits = λ i. fits_at i (i == u) refl; runner = if_some (λ r. IsKnown w.threads r) (λ r. IsSome (slot_of x r)) w.scheduler.running spawn_others whole.runner; stored = λ r. stored_by r (r == t) refl }
 
 -- a refused new thread
@@ -245,7 +245,7 @@ module _ {P S H : Type 0} (w : WorldOf P S H) (x : ThreadsOf) (same : IsSame w.t
     present = rw (same.slots, same.entries, same.count, same.made) sound.present;
   }
 
-  pub same_whole : Whole w → Whole (record w { threads = record w.threads { records = x } })
+  pub same_whole : WellFormed w → WellFormed (record w { threads = record w.threads { records = x } })
   same_whole whole = record {
     sound = same_sound whole.sound;
     fits = λ u. rw same.entries (whole.fits u);

@@ -13,7 +13,7 @@ use Rattle.pth_tables.specs.CountedOf.{CountedOf, KeptQueues, counted, nothing_c
 use Rattle.pth_threads.specs.Threads.{count}
 use Rattle.pth_world.specs.Shows.{Shows}
 use Rattle.pth_world.specs.Store.{store_of}
-use Rattle.pth_world.specs.Whole.{Whole}
+use Rattle.pth_world.specs.WellFormed.{WellFormed}
 use Rattle.pth_world.specs.World.{WorldOf, before_main}
 
 -- queues with nobody, in which as many threads may stand as there may be
@@ -32,7 +32,7 @@ pub record AreEmpty {S : Type 0} (top : ℕ) (q : KeptQueues) (y : List (Option 
 pub record IsBeforeMain {P S H : Type 0} (f : P → Functions S H) (g : Given P) (w : WorldOf P S H) : Type 0 where
   pub shows : Shows w (before_main f g)
   pub store : store_of w.store ≡ no_resources.store
-  pub whole : Whole w
+  pub whole : WellFormed w
   -- no number of a thread, an attribute object, an event or a port was given
   pub made : w.threads.records.made ≡ 0
   pub objects : w.attributes.objects.made ≡ 0

@@ -3,7 +3,7 @@ use Rattle.std.specs.Prelude.{◌≡◌, ◌⊎◌, ℕ, Bool, true, false, Opti
 use Rattle.pth_model.specs.declared.next.Next.{Next}
 use Rattle.pth_model.specs.declared.next.Next.TheVariants as next
 use Rattle.pth_world.specs.World.{WorldOf}
-use Rattle.pth_world.specs.Whole.{Whole, WaitsToRun}
+use Rattle.pth_world.specs.WellFormed.{WellFormed, WaitsToRun}
 use Rattle.pth_world.specs.Ranks.{KeepsRanks}
 use Rattle.pth_world.specs.Numbering.{Numbers, GivesAtMost, Thread}
 
@@ -15,7 +15,7 @@ Names true w v = (v.scheduler.preferred ≡ w.scheduler.preferred) ⊎ ((u : ℕ
 -- From w to v: this thread runs, if any; at most so many numbers of each kind were given, and at most as many threads more are new as
 -- numbers of threads. No ready thread is lifted above the others, and who is named is told by whether control is given up.
 pub record Frame {P S H : Type 0} (w v : WorldOf P S H) (n : Numbers) (running : Option ℕ) (yields : Bool) : Type 0 where
-  pub whole : Whole v
+  pub whole : WellFormed v
   pub runs : v.scheduler.running ≡ running
   pub made : GivesAtMost n w v
   pub ranks : KeepsRanks (n Thread) w.threads v.threads

@@ -21,7 +21,7 @@ use Rattle.pth_model.specs.Row.{Attempt, effect_of}
 use Rattle.pth_world.specs.World.{WorldOf}
 use Rattle.pth_world.specs.Shows.{Shows, StandsFor}
 use Rattle.pth_world.specs.Store.{store_of}
-use Rattle.pth_world.specs.Whole.{MayAwaitAs}
+use Rattle.pth_world.specs.WellFormed.{MayAwaitAs}
 
 -- the world stands for the state that is led to, and what is told was appended: the marks were old, and are new
 pub record Leads {P S H : Type 0} (w : WorldOf P S H) (old new : List Mark) (told : Transition P S H) : Type 0 where

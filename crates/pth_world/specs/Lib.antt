@@ -4,7 +4,7 @@ pub mod Numbering
 pub mod Shows
 pub mod StateOf
 pub mod Sound
-pub mod Whole
+pub mod WellFormed
 pub mod Touches
 pub mod Once
 pub mod Leading

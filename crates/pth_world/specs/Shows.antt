@@ -34,7 +34,7 @@ pub record CountsWaits {S : Type 0} (greatest : ℕ) (x : ThreadsBySlot S) (k : 
   pub counts : Counts (slot_of x.records) (waits_of x.waits) k.trail (k.standing Ready) k.entries
 
 -- The threads are these under their numbers, each queue shows the standings in order, and the greatest base priority is that of the
--- queues. It is that of the attribute objects too where the world is whole (`Whole`). Not shown of standings
+-- queues. It is that of the attribute objects too where the world is well-formed (`WellFormed`). Not shown of standings
 -- are three things:
 -- - raises of the ready queue, and those before an entry: a rank shows how many came between the two;
 -- - numbers of entries: the order of equal ranks shows which entry was earlier;

@@ -6,7 +6,7 @@ use Rattle.pth_threads.specs.declared.entry.Change.{Change}
 use Rattle.pth_threads.specs.declared.entry.Change.TheVariants as change
 use Rattle.pth_model.specs.declared.blocked.Blocked.{Blocked}
 use Rattle.pth_world.specs.World.{WorldOf, ThreadsBySlot}
-use Rattle.pth_world.specs.Whole.{View, view}
+use Rattle.pth_world.specs.WellFormed.{View, view}
 
 -- the others have what they had, and this one what the change makes of it; the greatest base priority is the same
 pub record Touches {S : Type 0} (old new : ThreadsBySlot S) (t : ℕ) (change : View → View) : Type 0 where

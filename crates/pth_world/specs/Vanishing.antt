@@ -10,7 +10,7 @@ use Rattle.pth_world.specs.Store.{store_of, HasNothing}
 use Rattle.pth_world.specs.World.{WorldOf}
 use Rattle.pth_world.specs.Ranks.{KeepsRanks}
 use Rattle.pth_world.specs.Shows.{Shows}
-use Rattle.pth_world.specs.Whole.{Whole}
+use Rattle.pth_world.specs.WellFormed.{WellFormed}
 
 -- the world shows a control in which some of k's threads other than t are gone: once all the others vanish, both are the same
 pub record ShowsRest {P S H : Type 0} (t : ℕ) (v : WorldOf P S H) (k : Control P S H) : Type 0 where
@@ -20,7 +20,7 @@ pub record ShowsRest {P S H : Type 0} (t : ℕ) (v : WorldOf P S H) (k : Control
 
 -- from w to v: some threads that stood in queues are in the system no longer, with what they stored, and nothing else is changed
 pub record Vanishing {P S H : Type 0} (w v : WorldOf P S H) : Type 0 where
-  pub whole : Whole v
+  pub whole : WellFormed v
   pub shows : (t : ℕ) → w.scheduler.running ≡ Some t → (k : Control P S H) → Shows w k → ShowsRest t v k
   pub made : v.threads.records.made ≡ w.threads.records.made
   pub ranks : KeepsRanks 0 w.threads v.threads

@@ -11,7 +11,7 @@ ghost use Rattle.pth_model.specs.Changes.{runs_now, prefers, favours_new, prio_o
 ghost use Rattle.pth_model.specs.Ending.{other_than, stops_running};
 ghost use Rattle.pth_world.specs.Shows.{Shows};
 ghost use Rattle.pth_world.specs.Sound.{IsSound, IsPrio, HasPrio, IsKnown};
-ghost use Rattle.pth_world.specs.Whole.{Whole, WholeBut, IsAbout};
+ghost use Rattle.pth_world.specs.WellFormed.{WellFormed, WellFormedBut, IsAbout};
 ghost use Rattle.pth_world.specs.World.{entry_in};
 
 mod attributes;
@@ -232,7 +232,7 @@ impl<P: Program> World<P> {
     pub fn set_running(&mut self, t: Option<Tid>)
         ensures same { self.new ≡ record self.old { scheduler = record self.old.scheduler { running = option_map number_of t } } }
         ensures shows { (k : Control P P.State P.Shared) → Shows self.old k → Shows self.new (runs_now (option_map number_of t) k) }
-        ensures but { (u : ℕ) → IsAbout self.old.scheduler.running u → IsAbout self.new.scheduler.running u → WholeBut self.old u → WholeBut self.new u }
+        ensures but { (u : ℕ) → IsAbout self.old.scheduler.running u → IsAbout self.new.scheduler.running u → WellFormedBut self.old u → WellFormedBut self.new u }
     {
         self.running = t;
     }
@@ -260,7 +260,7 @@ impl<P: Program> World<P> {
     pub fn name_next(&mut self, t: Option<Tid>)
         ensures same { self.new ≡ record self.old { scheduler = record self.old.scheduler { preferred = option_map number_of t } } }
         ensures shows { (k : Control P P.State P.Shared) → Shows self.old k → Shows self.new (prefers (option_map number_of t) k) }
-        ensures whole { Whole self.old → Whole self.new }
+        ensures whole { WellFormed self.old → WellFormed self.new }
     {
         self.preferred = t;
     }
@@ -276,7 +276,7 @@ impl<P: Program> World<P> {
     pub fn set_favour(&mut self, on: bool)
         ensures same { self.new ≡ record self.old { scheduler = record self.old.scheduler { favour_new = on } } }
         ensures shows { (k : Control P P.State P.Shared) → Shows self.old k → Shows self.new (favours_new on k) }
-        ensures whole { Whole self.old → Whole self.new }
+        ensures whole { WellFormed self.old → WellFormed self.new }
     {
         self.favour_new = on;
     }

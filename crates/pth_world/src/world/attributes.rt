@@ -12,7 +12,7 @@ ghost use Rattle.pth_world.specs.Frame.{Frame};
 ghost use Rattle.pth_world.specs.Numbering.{no_numbers};
 ghost use Rattle.pth_world.specs.Shows.{Shows};
 ghost use Rattle.pth_world.specs.Sound.{IsSound};
-ghost use Rattle.pth_world.specs.Whole.{Whole};
+ghost use Rattle.pth_world.specs.WellFormed.{WellFormed};
 ghost use Rattle.pth_world.specs.World.{entry_in};
 ghost use Rattle.pth_world.specs.contracts.world.World.{the_row};
 
@@ -62,7 +62,7 @@ impl<P: Program> World<P> {
             ≡ set_answer self.old.attributes.top (entry_in self.old.threads) (named (object_of self.old.attributes) a) v.now }
         ensures shows { IsSound self.old.threads → OnOk result ((k : Control P P.State P.Shared) → Shows self.old k
             → Shows self.new (sets_value a v.now (object k a) k)) }
-        ensures frame { Whole self.old → OnOk result (Frame self.old self.new no_numbers self.old.scheduler.running false) }
+        ensures frame { WellFormed self.old → OnOk result (Frame self.old self.new no_numbers self.old.scheduler.running false) }
         ensures store { OnOk result (self.new.store ≡ self.old.store) }
         ensures refused { OnErr result (self.new ≡ self.old) }
     {

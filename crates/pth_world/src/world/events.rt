@@ -15,7 +15,7 @@ ghost use Rattle.pth_ring.specs.contracts.rings.Rings.{the_row as rings_row};
 ghost use Rattle.pth_world.specs.Frame.{Frame};
 ghost use Rattle.pth_world.specs.Numbering.{no_numbers};
 ghost use Rattle.pth_world.specs.Shows.{Shows};
-ghost use Rattle.pth_world.specs.Whole.{Whole};
+ghost use Rattle.pth_world.specs.WellFormed.{WellFormed};
 ghost use Rattle.pth_world.specs.contracts.world.World.{the_row};
 
 use crate::world::World;
@@ -57,7 +57,7 @@ impl<P: Program> World<P> {
     /// A thread waits for the ring of an event from now on (`pth_wait`), and the events of conditions in it enter their seats there:
     /// EINVAL where there is no such event, and EBUSY where its ring is claimed. Without memory the world may only be dropped.
     pub fn claim(&mut self, t: Tid, e: i64) -> Result<(), Refusal>
-        requires { Whole self.old }
+        requires { WellFormed self.old }
         ensures answer { AnswersWithMemory (claim_answer (events_of self.old.events) (number e)) result }
         ensures shows { OnOk result ((k : Control P P.State P.Shared) → Shows self.old k → Shows self.new (claims t.0 (Some e) k)) }
         ensures frame { Frame self.old self.new no_numbers self.old.scheduler.running false }

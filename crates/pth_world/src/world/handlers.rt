@@ -7,7 +7,7 @@ ghost use Rattle.pth_model.specs.State.{Control, State};
 ghost use Rattle.pth_numbered.specs.Operands.{number};
 ghost use Rattle.pth_world.specs.Once.{once_answer};
 ghost use Rattle.pth_world.specs.Shows.{Shows};
-ghost use Rattle.pth_world.specs.Whole.{Whole};
+ghost use Rattle.pth_world.specs.WellFormed.{WellFormed};
 
 use crate::world::World;
 use pth_base::act::Act;
@@ -24,7 +24,7 @@ impl<P: Program> World<P> {
         ensures act { record { act = result; shared = self.new.shared } ≡ (P.functions self.old.program).act h.0 arg index self.old.shared }
         ensures ends { 64 ≤ index → IsNone result }
         ensures shows { (k : Control P P.State P.Shared) → Shows self.old k → Shows self.new (shares ((P.functions k.program).act h.0 arg index k.shared).shared k) }
-        ensures whole { Whole self.old → Whole self.new }
+        ensures whole { WellFormed self.old → WellFormed self.new }
         ensures same { self.new ≡ record self.old { shared = self.new.shared } }
     {
         self.program.act(h, arg, index, &mut self.shared)
@@ -45,7 +45,7 @@ impl<P: Program> World<P> {
         ensures answer { (k : Control P P.State P.Shared) → Shows self.old k → result ≡ once_answer k.used o }
         ensures first { result ≡ Ok true → (k : Control P P.State P.Shared) → Shows self.old k → Shows self.new (uses (number o) k) }
         ensures still { result ≢ Ok true → self.new ≡ self.old }
-        ensures whole { Whole self.old → Whole self.new }
+        ensures whole { WellFormed self.old → WellFormed self.new }
         ensures same { self.new ≡ record self.old { used = self.new.used } }
     {
         if o < 0 || o >= ONCE_CONTROLS {

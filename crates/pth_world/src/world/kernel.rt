@@ -8,7 +8,7 @@ ghost use Rattle.pth_kernel.specs.contracts.kernel.Kernel.{the_row as kernel_row
 ghost use Rattle.pth_model.specs.Changes.{moves_to};
 ghost use Rattle.pth_model.specs.State.{Control};
 ghost use Rattle.pth_world.specs.Shows.{Shows};
-ghost use Rattle.pth_world.specs.Whole.{Whole};
+ghost use Rattle.pth_world.specs.WellFormed.{WellFormed};
 ghost use Rattle.pth_world.specs.contracts.world.World.{the_row};
 
 use crate::world::World;
@@ -54,7 +54,7 @@ impl<P: Program> World<P> {
         requires within { time ≤ last_moment }
         ensures same { self.new ≡ record self.old { kernel = record self.old.kernel { now = time } } }
         ensures shows { (k : Control P P.State P.Shared) → Shows self.old k → Shows self.new (moves_to time k) }
-        ensures whole { Whole self.old → Whole self.new }
+        ensures whole { WellFormed self.old → WellFormed self.new }
     {
         self.kernel_mut().advance(time);
     }

@@ -9,7 +9,7 @@ ghost use Rattle.pth_model.specs.Resources.{with_mutexes, with_rw_locks};
 ghost use Rattle.pth_world.specs.Keeps.{KeepsAllButStore};
 ghost use Rattle.pth_world.specs.Sound.{IsSound, IsKnown, IsAlive};
 ghost use Rattle.pth_world.specs.Store.{owner_answer, store_of};
-ghost use Rattle.pth_world.specs.Whole.{Whole};
+ghost use Rattle.pth_world.specs.WellFormed.{WellFormed};
 
 use crate::world::World;
 use pth_base::errno::Errno;
@@ -96,7 +96,7 @@ impl<P: Program> World<P> {
 
     /// Who has a mutex, None if it is free: EINVAL if it is not initialised.
     pub fn mutex_owner(&self, m: i64) -> Result<Option<Tid>, Errno>
-        requires { Whole self.now }
+        requires { WellFormed self.now }
         ensures { result ≡ owner_answer (store_of self.now.store).mutexes m }
     {
         match self.mutexes.owner(m) {

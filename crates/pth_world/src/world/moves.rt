@@ -20,7 +20,7 @@ ghost use Rattle.pth_world.specs.Ranks.{greatest_return, KeepsRanks, more_new};
 ghost use Rattle.pth_world.specs.Shows.{Shows, IsTurnOf};
 ghost use Rattle.pth_world.specs.Store.{store_of, HasNothing};
 ghost use Rattle.pth_world.specs.Sound.{IsSound, IsPrio, IsKnown};
-ghost use Rattle.pth_world.specs.Whole.{Whole, IsIn, IsBeforeReady, CanSuspend, MayStandIn, WaitsToRun};
+ghost use Rattle.pth_world.specs.WellFormed.{WellFormed, IsIn, IsBeforeReady, CanSuspend, MayStandIn, WaitsToRun};
 ghost use Rattle.pth_world.specs.World.{entry_in};
 ghost use Rattle.pth_world.specs.Touches.{SameThreads, KeepsRest};
 
@@ -36,12 +36,12 @@ use pth_threads::entry::Change;
 impl<P: Program> World<P> {
     /// A thread that is new or waits is ready, at a rank. `top` says that it is a new thread that is favoured.
     pub fn make_ready(&mut self, t: Tid, rank: i64, top: bool)
-        requires whole { Whole self.old }
+        requires whole { WellFormed self.old }
         requires known { IsKnown self.old.threads t.0 }
         requires before { IsBeforeReady self.old.threads t.0 }
         requires rank { IsEntryRank rank }
         ensures shows { (k : Control P P.State P.Shared) → Shows self.old k → Shows self.new (is_ready_at t.0 rank top k) }
-        ensures whole { Whole self.new }
+        ensures whole { WellFormed self.new }
         ensures threads { SameThreads self.old.threads self.new.threads }
         ensures scheduler { KeepsRest self.old self.new }
         ensures queues { IfSome (slot_of self.old.threads.records t.0) (λ u. self.new.threads.queues ≡ entered queue.Ready rank u (without u self.old.threads.queues)) }
@@ -56,14 +56,14 @@ impl<P: Program> World<P> {
     /// A ready thread is dispatched: it runs, its dispatches are one more, and nobody is named any longer. The answer says how often
     /// another was dispatched in its place since it was ready, and how often at most (in dispatches).
     pub fn dispatch(&mut self, t: Tid) -> Turn
-        requires whole { Whole self.old }
+        requires whole { WellFormed self.old }
         requires known { IsKnown self.old.threads t.0 }
         requires stands { IsIn queue.Ready self.old.threads t.0 }
         requires nobody { self.old.scheduler.running ≡ None }
         ensures shows { (k : Control P P.State P.Shared) → Shows self.old k → Shows self.new (runs t.0 k) }
         ensures numbers { (k : Control P P.State P.Shared) → Shows self.old k
             → AreTakenReady k.threads.trail → length k.threads.trail ≤ most_steps → IsTurnOf k t.0 result }
-        ensures whole { Whole self.new }
+        ensures whole { WellFormed self.new }
         ensures threads { SameThreads self.old.threads self.new.threads }
         ensures queues { IfSome (slot_of self.old.threads.records t.0) (λ u. self.new.threads.queues ≡ without u self.old.threads.queues) }
         ensures ranks { KeepsRanks 0 self.old.threads self.new.threads }
@@ -81,10 +81,10 @@ impl<P: Program> World<P> {
 
     /// The thread that runs is ready again, at its base priority.
     pub fn put_back(&mut self, t: Tid)
-        requires whole { Whole self.old }
+        requires whole { WellFormed self.old }
         requires runs { self.old.scheduler.running ≡ Some t.0 }
         ensures shows { (k : Control P P.State P.Shared) → Shows self.old k → Shows self.new (runs_now None (is_put_back t.0 k)) }
-        ensures whole { Whole self.new }
+        ensures whole { WellFormed self.new }
         ensures threads { SameThreads self.old.threads self.new.threads }
         ensures queues { IfSome (slot_of self.old.threads.records t.0) (λ u. (prio : ℤ) × IsPrio prio × (self.new.threads.queues ≡ entered queue.Ready prio u self.old.threads.queues)) }
         ensures ranks { KeepsRanks 0 self.old.threads self.new.threads }
@@ -99,10 +99,10 @@ impl<P: Program> World<P> {
 
     /// The thread that runs waits, at its base priority.
     pub fn make_waiting(&mut self, t: Tid)
-        requires whole { Whole self.old }
+        requires whole { WellFormed self.old }
         requires runs { self.old.scheduler.running ≡ Some t.0 }
         ensures shows { (k : Control P P.State P.Shared) → Shows self.old k → Shows self.new (runs_now None (is_put_waiting t.0 k)) }
-        ensures whole { Whole self.new }
+        ensures whole { WellFormed self.new }
         ensures threads { SameThreads self.old.threads self.new.threads }
         ensures queues { IfSome (slot_of self.old.threads.records t.0) (λ u. (prio : ℤ) × IsPrio prio × (self.new.threads.queues ≡ entered queue.Waiting prio u self.old.threads.queues)) }
         ensures ranks { KeepsRanks 0 self.old.threads self.new.threads }
@@ -115,7 +115,7 @@ impl<P: Program> World<P> {
 
     // A thread leaves its queue for another, at rank 0, and is suspended from now on, or no longer.
     fn move_to(&mut self, t: Tid, suspended: bool, q: Queue)
-        requires whole { Whole self.old }
+        requires whole { WellFormed self.old }
         requires known { IsKnown self.old.threads t.0 }
         requires may { IfSome (entry_in self.old.threads t.0) (λ e. MayStandIn q suspended e.state) }
         ensures shows { (k : Control P P.State P.Shared) → Shows self.old k → Shows self.new (enters t.0 q (pos 0) false (sets t.0 (change.Suspended suspended) (leaves_queue t.0 k))) }
@@ -128,7 +128,7 @@ impl<P: Program> World<P> {
 
     /// A thread that is new, ready or waits stands among the suspended ones, at rank 0, and keeps its state (`pth_suspend`).
     pub fn suspend(&mut self, t: Tid)
-        requires whole { Whole self.old }
+        requires whole { WellFormed self.old }
         requires known { IsKnown self.old.threads t.0 }
         requires can { IfSome (entry_in self.old.threads t.0) (λ e. CanSuspend e.state) }
         ensures shows { (k : Control P P.State P.Shared) → Shows self.old k → Shows self.new (suspends t.0 k) }
@@ -158,7 +158,7 @@ impl<P: Program> World<P> {
 
     /// A suspended thread stands in the queue of its state again, at rank 0 (`pth_resume`).
     pub fn resume(&mut self, t: Tid)
-        requires whole { Whole self.old }
+        requires whole { WellFormed self.old }
         requires known { IsKnown self.old.threads t.0 }
         requires suspended { IfSome (entry_in self.old.threads t.0) (λ e. e.suspended ≡ true) }
         ensures shows { (k : Control P P.State P.Shared) → Shows self.old k → Shows self.new (resumes t.0 k) }
@@ -170,7 +170,7 @@ impl<P: Program> World<P> {
 
     /// A dead thread is in the system no longer, as one that was joined (`pth_join`). It had nothing stored.
     pub fn remove(&mut self, t: Tid)
-        requires whole { Whole self.old }
+        requires whole { WellFormed self.old }
         requires known { IsKnown self.old.threads t.0 }
         requires dead { IsIn queue.Dead self.old.threads t.0 }
         ensures shows { (k : Control P P.State P.Shared) → Shows self.old k → Shows self.new (removes t.0 k) }
@@ -181,7 +181,7 @@ impl<P: Program> World<P> {
 
     // A thread that has nothing stored is dead, and keeps a value until it is joined.
     fn make_dead(&mut self, t: Tid, value: i64)
-        requires whole { Whole self.old }
+        requires whole { WellFormed self.old }
         requires known { IsKnown self.old.threads t.0 }
         requires nothing { HasNothing (store_of self.old.store) t.0 }
         ensures shows { (k : Control P P.State P.Shared) → Shows self.old k → Shows self.new (stops_running t.0 (is_dead_with t.0 value k)) }
@@ -197,7 +197,7 @@ impl<P: Program> World<P> {
 
     // A thread that has nothing stored is gone.
     fn make_gone(&mut self, t: Tid)
-        requires whole { Whole self.old }
+        requires whole { WellFormed self.old }
         requires known { IsKnown self.old.threads t.0 }
         requires nothing { HasNothing (store_of self.old.store) t.0 }
         ensures shows { (k : Control P P.State P.Shared) → Shows self.old k → Shows self.new (stops_running t.0 (removes t.0 k)) }
@@ -210,7 +210,7 @@ impl<P: Program> World<P> {
     /// A thread that has nothing stored ends, whoever runs: one that can be joined is dead and keeps a value until it is joined,
     /// and another is gone. It runs no longer.
     pub fn leave(&mut self, t: Tid, value: i64)
-        requires whole { Whole self.old }
+        requires whole { WellFormed self.old }
         requires known { IsKnown self.old.threads t.0 }
         requires nothing { HasNothing (store_of self.old.store) t.0 }
         ensures shows { (k : Control P P.State P.Shared) → Shows self.old k → Shows self.new (leaves t.0 value k) }

@@ -13,7 +13,7 @@ ghost use Rattle.pth_model.specs.Allowance.{AreTakenReady};
 ghost use Rattle.pth_base.specs.Limits.{most_steps};
 ghost use Rattle.pth_world.specs.Shows.{Shows, IsTurnOf};
 ghost use Rattle.pth_world.specs.Sound.{IsSound, IsKnown};
-ghost use Rattle.pth_world.specs.Whole.{Whole, WholeBut, IsIn, WaitsToRun, view};
+ghost use Rattle.pth_world.specs.WellFormed.{WellFormed, WellFormedBut, IsIn, WaitsToRun, view};
 ghost use Rattle.pth_world.specs.Touches.{SameButQueues, Touches, view_placed};
 
 use crate::world::World;
@@ -32,7 +32,7 @@ impl<P: Program> World<P> {
         ensures shows { (k : Control P P.State P.Shared) → Shows self.old k → Shows self.new (enters t.0 q rank false k) }
         ensures sound { IsSound self.new.threads }
         ensures touches { Touches self.old.threads self.new.threads t.0 (view_placed (Some q)) }
-        ensures but { WholeBut self.old t.0 → WholeBut self.new t.0 }
+        ensures but { WellFormedBut self.old t.0 → WellFormedBut self.new t.0 }
         ensures queues { IfSome (slot_of self.old.threads.records t.0) (λ u. self.new.threads.queues ≡ entered q rank u self.old.threads.queues) }
         ensures same { SameButQueues self.old self.new }
     {
@@ -51,7 +51,7 @@ impl<P: Program> World<P> {
         ensures shows { (k : Control P P.State P.Shared) → Shows self.old k → Shows self.new (enters t.0 q rank top k) }
         ensures sound { IsSound self.new.threads }
         ensures touches { Touches self.old.threads self.new.threads t.0 (view_placed (Some q)) }
-        ensures but { WholeBut self.old t.0 → WholeBut self.new t.0 }
+        ensures but { WellFormedBut self.old t.0 → WellFormedBut self.new t.0 }
         ensures queues { IfSome (slot_of self.old.threads.records t.0) (λ u. self.new.threads.queues ≡ entered q rank u self.old.threads.queues) }
         ensures same { SameButQueues self.old self.new }
     {
@@ -65,7 +65,7 @@ impl<P: Program> World<P> {
         ensures shows { (k : Control P P.State P.Shared) → Shows self.old k → Shows self.new (leaves_queue t.0 k) }
         ensures sound { IsSound self.new.threads }
         ensures touches { Touches self.old.threads self.new.threads t.0 (view_placed None) }
-        ensures but { WholeBut self.old t.0 → WholeBut self.new t.0 }
+        ensures but { WellFormedBut self.old t.0 → WellFormedBut self.new t.0 }
         ensures queues { IfSome (slot_of self.old.threads.records t.0) (λ u. self.new.threads.queues ≡ without u self.old.threads.queues) }
         ensures same { SameButQueues self.old self.new }
     {
@@ -81,7 +81,7 @@ impl<P: Program> World<P> {
         ensures shows { (k : Control P P.State P.Shared) → Shows self.old k → Shows self.new (leaves_queue t.0 k) }
         ensures sound { IsSound self.new.threads }
         ensures touches { Touches self.old.threads self.new.threads t.0 (view_placed None) }
-        ensures but { WholeBut self.old t.0 → WholeBut self.new t.0 }
+        ensures but { WellFormedBut self.old t.0 → WellFormedBut self.new t.0 }
         ensures queues { IfSome (slot_of self.old.threads.records t.0) (λ u. self.new.threads.queues ≡ without u self.old.threads.queues) }
         ensures same { SameButQueues self.old self.new }
     {
@@ -118,8 +118,8 @@ impl<P: Program> World<P> {
         ensures shows { (k : Control P P.State P.Shared) → Shows self.old k → Shows self.new (raises_ready k) }
         ensures sound { IsSound self.new.threads }
         ensures views { (u : ℕ) → view self.new.threads u ≡ view self.old.threads u }
-        ensures but { (t : ℕ) → WholeBut self.old t → WholeBut self.new t }
-        ensures whole { Whole self.old → Whole self.new }
+        ensures but { (t : ℕ) → WellFormedBut self.old t → WellFormedBut self.new t }
+        ensures whole { WellFormed self.old → WellFormed self.new }
         ensures stays { (u : ℕ) → WaitsToRun self.old.threads u → WaitsToRun self.new.threads u }
         ensures same { self.new ≡ record self.old { threads = record self.old.threads { queues = with_rows queue.Ready (increase self.old.threads.queues.ready) self.old.threads.queues } } }
     {

@@ -9,7 +9,7 @@ ghost use Rattle.pth_model.specs.RingWaits.{awaited_in, stops_waiting};
 ghost use Rattle.pth_model.specs.Part.{step_of, stepping};
 ghost use Rattle.pth_world.specs.Shows.{Shows};
 ghost use Rattle.pth_world.specs.Sound.{IsSound, IsKnown};
-ghost use Rattle.pth_world.specs.Whole.{Whole, WholeBut, MayBlock, MayAwait};
+ghost use Rattle.pth_world.specs.WellFormed.{WellFormed, WellFormedBut, MayBlock, MayAwait};
 ghost use Rattle.pth_world.specs.Touches.{Touches, view_blocked, same_view};
 ghost use Rattle.pth_tables.specs.StepsAt.{StepsAt};
 
@@ -31,8 +31,8 @@ impl<P: Program> World<P> {
         ensures shows { (k : Control P P.State P.Shared) → Shows self.old k → Shows self.new (is_blocked_by t.0 (Some b) k) }
         ensures sound { IsSound self.new.threads }
         ensures touches { Touches self.old.threads self.new.threads t.0 (view_blocked (Some b)) }
-        ensures but { WholeBut self.old t.0 → WholeBut self.new t.0 }
-        ensures whole { Whole self.old → MayBlock t.0 b → Whole self.new }
+        ensures but { WellFormedBut self.old t.0 → WellFormedBut self.new t.0 }
+        ensures whole { WellFormed self.old → MayBlock t.0 b → WellFormed self.new }
         ensures same { self.new ≡ record self.old { threads = record self.old.threads { progress = self.new.threads.progress } } }
     {
         let slot = self.slot(t);
@@ -47,8 +47,8 @@ impl<P: Program> World<P> {
         ensures shows { (k : Control P P.State P.Shared) → Shows self.old k → Shows self.new (is_blocked_by t.0 None k) }
         ensures sound { IsSound self.new.threads }
         ensures touches { Touches self.old.threads self.new.threads t.0 (view_blocked None) }
-        ensures but { WholeBut self.old t.0 → WholeBut self.new t.0 }
-        ensures whole { Whole self.old → Whole self.new }
+        ensures but { WellFormedBut self.old t.0 → WellFormedBut self.new t.0 }
+        ensures whole { WellFormed self.old → WellFormed self.new }
         ensures same { self.new ≡ record self.old { threads = record self.old.threads { progress = self.new.threads.progress } } }
     {
         let slot = self.slot(t);
@@ -63,8 +63,8 @@ impl<P: Program> World<P> {
         ensures shows { (k : Control P P.State P.Shared) → Shows self.old k → Shows self.new (stops_waiting t.0 k) }
         ensures sound { IsSound self.new.threads }
         ensures touches { Touches self.old.threads self.new.threads t.0 (view_blocked None) }
-        ensures but { WholeBut self.old t.0 → WholeBut self.new t.0 }
-        ensures whole { Whole self.old → Whole self.new }
+        ensures but { WellFormedBut self.old t.0 → WellFormedBut self.new t.0 }
+        ensures whole { WellFormed self.old → WellFormed self.new }
         ensures made { self.new.events.made ≡ self.old.events.made }
         ensures same { self.new ≡ record self.old { threads = record self.old.threads { progress = self.new.threads.progress }; events = self.new.events; conditions = self.new.conditions } }
     {
@@ -81,8 +81,8 @@ impl<P: Program> World<P> {
         ensures shows { (k : Control P P.State P.Shared) → Shows self.old k → Shows self.new (owes t.0 a k) }
         ensures sound { IsSound self.new.threads }
         ensures touches { Touches self.old.threads self.new.threads t.0 same_view }
-        ensures but { WholeBut self.old t.0 → WholeBut self.new t.0 }
-        ensures whole { Whole self.old → Whole self.new }
+        ensures but { WellFormedBut self.old t.0 → WellFormedBut self.new t.0 }
+        ensures whole { WellFormed self.old → WellFormed self.new }
         ensures same { self.new ≡ record self.old { threads = record self.old.threads { progress = self.new.threads.progress } } }
     {
         let slot = self.slot(t);
@@ -94,7 +94,7 @@ impl<P: Program> World<P> {
     pub fn blocked(&self, t: Tid) -> Option<&Blocked>
         requires { IsSound self.now.threads }
         ensures blocked { (k : Control P P.State P.Shared) → Shows self.now k → option_copied result ≡ blocked_of k t.0 }
-        ensures may { Whole self.now → IfSome (option_copied result) (λ b. MayBlock t.0 b) }
+        ensures may { WellFormed self.now → IfSome (option_copied result) (λ b. MayBlock t.0 b) }
     {
         match self.threads().find(t) {
             Some(slot) => match self.progress().get(slot) {
@@ -109,7 +109,7 @@ impl<P: Program> World<P> {
     pub fn awaited(&self, t: Tid) -> Awaited
         requires { IsSound self.now.threads }
         ensures awaited { (k : Control P P.State P.Shared) → Shows self.now k → result ≡ awaited_in (blocked_of k t.0) }
-        ensures may { Whole self.now → MayAwait result.what }
+        ensures may { WellFormed self.now → MayAwait result.what }
     {
         match self.threads().find(t) {
             Some(slot) => self.progress().awaited(slot),
@@ -145,8 +145,8 @@ impl<P: Program> World<P> {
         ensures some { (k : Control P P.State P.Shared) → Shows self.old k → IsSome (k.threads.progress t.0) }
         ensures sound { OnOk result (IsSound self.new.threads) }
         ensures touches { OnOk result (Touches self.old.threads self.new.threads t.0 same_view) }
-        ensures but { OnOk result (WholeBut self.old t.0 → WholeBut self.new t.0) }
-        ensures whole { OnOk result (Whole self.old → Whole self.new) }
+        ensures but { OnOk result (WellFormedBut self.old t.0 → WellFormedBut self.new t.0) }
+        ensures whole { OnOk result (WellFormed self.old → WellFormed self.new) }
         ensures same { OnOk result (self.new ≡ record self.old { threads = record self.old.threads { progress = self.new.threads.progress }; shared = self.new.shared }) }
     {
         let slot = self.slot(t);

@@ -16,7 +16,7 @@ ghost use Rattle.pth_world.specs.Walks.{behind};
 ghost use Rattle.pth_world.specs.Placed.{place};
 ghost use Rattle.pth_world.specs.Shows.{Shows};
 ghost use Rattle.pth_world.specs.Sound.{IsSound, IsKnown, IsPrio};
-ghost use Rattle.pth_world.specs.Whole.{Whole, IsIn};
+ghost use Rattle.pth_world.specs.WellFormed.{WellFormed, IsIn};
 
 use crate::world::World;
 use pth_base::ids::{Slot, Tid};
@@ -34,7 +34,7 @@ impl<P: Program> World<P> {
         ensures tid { IfSome result (λ e. e.now.tid.0 ≡ t.0) }
         ensures known { IsSome result → IsKnown self.now.threads t.0 }
         ensures some { IsKnown self.now.threads t.0 → IsSome result }
-        ensures prio { Whole self.now → IfSome result (λ e. IsPrio e.now.prio) }
+        ensures prio { WellFormed self.now → IfSome result (λ e. IsPrio e.now.prio) }
     {
         match self.threads().find(t) {
             Some(slot) => Some(self.threads().get(slot)),
@@ -60,7 +60,7 @@ impl<P: Program> World<P> {
         ensures here { IfSome result (λ e. Some e.now ≡ entry_in self.now.threads e.now.tid.0) }
         ensures number { IfSome result (λ e. n ≡ pos e.now.tid.0) }
         ensures known { IfSome result (λ e. IsKnown self.now.threads e.now.tid.0) }
-        ensures prio { Whole self.now → IfSome result (λ e. IsPrio e.now.prio) }
+        ensures prio { WellFormed self.now → IfSome result (λ e. IsPrio e.now.prio) }
     {
         if n < 0 {
             return None;

@@ -24,7 +24,7 @@ ghost use Rattle.pth_world.specs.Shows.{Shows, StandsFor};
 ghost use Rattle.pth_world.specs.Store.{store_of, HasNothing};
 ghost use Rattle.pth_world.specs.Sound.{IsSound, IsKnown, IsAlive, IsPrio, HasPrio, KeepsPrio};
 ghost use Rattle.pth_world.specs.Frame.{Frame};
-ghost use Rattle.pth_world.specs.Whole.{Whole, WholeBut, view};
+ghost use Rattle.pth_world.specs.WellFormed.{WellFormed, WellFormedBut, view};
 ghost use Rattle.pth_world.specs.Touches.{IsAside, SameButStates, SameThreads, Touches, view_changed, view_placed};
 ghost use Rattle.pth_world.specs.World.{entry_in};
 
@@ -172,7 +172,7 @@ impl<P: Program> World<P> {
         requires { IsGreatestPriority top }
         ensures stands { IfOk result (λ w. StandsFor w
             (start P.functions (record { program = program; kernel = kernel_of kernel; top = top }))) }
-        ensures whole { IfOk result (λ w. Whole w) }
+        ensures whole { IfOk result (λ w. WellFormed w) }
         ensures one { IfOk result (λ w. w.threads.records.made ≡ 1) }
         ensures no_objects { IfOk result (λ w. w.attributes.objects.made ≡ 0) }
         ensures no_events { IfOk result (λ w. w.events.made ≡ 0) }
@@ -207,7 +207,7 @@ impl<P: Program> World<P> {
         ensures shows { (k : Control P P.State P.Shared) → Shows self.old k → Shows self.new (sets t.0 c k) }
         ensures sound { IsSound self.new.threads }
         ensures touches { Touches self.old.threads self.new.threads t.0 (view_changed c) }
-        ensures but { WholeBut self.old t.0 → WholeBut self.new t.0 }
+        ensures but { WellFormedBut self.old t.0 → WellFormedBut self.new t.0 }
         ensures threads { SameThreads self.old.threads self.new.threads }
         ensures same { self.new ≡ record self.old { threads = record self.old.threads { records = self.new.threads.records } } }
     {
@@ -224,7 +224,7 @@ impl<P: Program> World<P> {
         ensures shows { (k : Control P P.State P.Shared) → Shows self.old k → Shows self.new (sets t.0 c k) }
         ensures sound { IsSound self.new.threads }
         ensures touches { Touches self.old.threads self.new.threads t.0 (view_changed c) }
-        ensures but { WholeBut self.old t.0 → WholeBut self.new t.0 }
+        ensures but { WellFormedBut self.old t.0 → WellFormedBut self.new t.0 }
         ensures threads { SameThreads self.old.threads self.new.threads }
         ensures same { self.new ≡ record self.old { threads = record self.old.threads { records = self.new.threads.records } } }
     {
@@ -234,7 +234,7 @@ impl<P: Program> World<P> {
     /// Sets a field of a thread's record that says neither its state nor where it stands: what it was given, and whether its end
     /// was asked for.
     pub fn set_field(&mut self, t: Tid, c: Change)
-        requires whole { Whole self.old }
+        requires whole { WellFormed self.old }
         requires known { IsKnown self.old.threads t.0 }
         requires prio { KeepsPrio c }
         requires countable { IsCountable c }
@@ -271,7 +271,7 @@ impl<P: Program> World<P> {
         ensures shows { (k : Control P P.State P.Shared) → Shows self.old k → Shows self.new (removes t.0 k) }
         ensures sound { IsSound self.new.threads }
         ensures others { (u : ℕ) → tid_at self.old.threads.records u ≢ t.0 → view self.new.threads u ≡ view self.old.threads u }
-        ensures but { WholeBut self.old t.0 → WholeBut self.new t.0 }
+        ensures but { WellFormedBut self.old t.0 → WellFormedBut self.new t.0 }
         ensures threads { IfSome (slot_of self.old.threads.records t.0)
             (λ u. RemovesThread self.old.threads.records self.new.threads.records u) }
         ensures queues { IfSome (slot_of self.old.threads.records t.0) (λ u. self.new.threads.queues ≡ without u self.old.threads.queues) }
@@ -323,7 +323,7 @@ impl<P: Program> World<P> {
     /// A new thread of this body, with this argument and these values, which enters the new queue at its base priority.
     /// A refused call changes nothing.
     pub fn spawn(&mut self, body: BodyId, arg: i64, of: NewThread) -> Result<Tid, AddErr>
-        requires whole { Whole self.old }
+        requires whole { WellFormed self.old }
         requires bodies { body.0 < (P.functions self.old.program).bodies }
         requires prio { IsPrio of.prio }
         requires few { HasNumbers self.old }
@@ -334,12 +334,12 @@ impl<P: Program> World<P> {
         ensures ranks { OnOk result (KeepsRanks 1 self.old.threads self.new.threads) }
         ensures shows { IfOk result (λ t. (k : Control P P.State P.Shared) → Shows self.old k
             → Shows self.new (spawns P.functions body.0 arg of k)) }
-        ensures whole { OnOk result (Whole self.new) }
+        ensures whole { OnOk result (WellFormed self.new) }
         ensures others { OnOk result ((t : ℕ) → IsKnown self.old.threads t → IsKnown self.new.threads t) }
         ensures same { OnOk result (self.new ≡ record self.old { threads = self.new.threads }) }
         ensures too_many { IsErrOf result AddErr.TooMany ↔ (count self.old.threads.records ≡ thread_limit) }
         ensures refused { OnErr result ((k : Control P P.State P.Shared) → Shows self.old k → Shows self.new k) }
-        ensures whole_still { OnErr result (Whole self.new) }
+        ensures whole_still { OnErr result (WellFormed self.new) }
         ensures still { OnErr result (self.new
             ≡ record self.old { threads = record self.old.threads { records = self.new.threads.records } }
             × IsSame self.old.threads.records self.new.threads.records) }
@@ -373,7 +373,7 @@ impl<P: Program> World<P> {
         ensures sound { IsSound self.new.threads }
         ensures touches { Touches self.old.threads self.new.threads t.0
             (λ v. view_placed (Some queue.Ready) (view_changed (change.State state.Ready) v)) }
-        ensures but { WholeBut self.old t.0 → WholeBut self.new t.0 }
+        ensures but { WellFormedBut self.old t.0 → WellFormedBut self.new t.0 }
         ensures threads { SameThreads self.old.threads self.new.threads }
         ensures queues { IfSome (slot_of self.old.threads.records t.0)
             (λ u. self.new.threads.queues ≡ entered queue.Ready rank u self.old.threads.queues) }
@@ -396,7 +396,7 @@ impl<P: Program> World<P> {
         ensures sound { IsSound self.new.threads }
         ensures touches { Touches self.old.threads self.new.threads t.0
             (λ v. view_placed (Some queue.Ready) (view_changed (change.State state.Ready) v)) }
-        ensures but { WholeBut self.old t.0 → WholeBut self.new t.0 }
+        ensures but { WellFormedBut self.old t.0 → WellFormedBut self.new t.0 }
         ensures threads { SameThreads self.old.threads self.new.threads }
         ensures queues { IfSome (slot_of self.old.threads.records t.0)
             (λ u. self.new.threads.queues ≡ entered queue.Ready rank u self.old.threads.queues) }
@@ -416,7 +416,7 @@ impl<P: Program> World<P> {
         ensures sound { IsSound self.new.threads }
         ensures touches { Touches self.old.threads self.new.threads t.0
             (λ v. view_placed (Some queue.Waiting) (view_changed (change.State state.Waiting) v)) }
-        ensures but { WholeBut self.old t.0 → WholeBut self.new t.0 }
+        ensures but { WellFormedBut self.old t.0 → WellFormedBut self.new t.0 }
         ensures threads { SameThreads self.old.threads self.new.threads }
         ensures queues { IfSome (slot_of self.old.threads.records t.0)
             (λ u. (prio : ℤ) × IsPrio prio × (self.new.threads.queues ≡ entered queue.Waiting prio u self.old.threads.queues)) }

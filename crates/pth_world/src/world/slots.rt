@@ -10,7 +10,7 @@ ghost use Rattle.pth_model.specs.State.{Control};
 ghost use Rattle.pth_threads.specs.Threads.{tid_at};
 ghost use Rattle.pth_world.specs.Shows.{Shows};
 ghost use Rattle.pth_world.specs.Sound.{IsSound, IsKnown};
-ghost use Rattle.pth_world.specs.Whole.{Whole, MayAwait};
+ghost use Rattle.pth_world.specs.WellFormed.{WellFormed, MayAwait};
 
 use crate::world::World;
 use pth_base::ids::{Slot, Tid};
@@ -61,7 +61,7 @@ impl<P: Program> World<P> {
         requires sound { IsSound self.now.threads }
         requires used { tid_at self.now.threads.records s.0 ≢ 0 }
         ensures awaited { (k : Control P P.State P.Shared) → Shows self.now k → result ≡ awaited (blocked_of k (tid_at self.now.threads.records s.0)) }
-        ensures may { Whole self.now → MayAwait result.what }
+        ensures may { WellFormed self.now → MayAwait result.what }
     {
         self.progress().awaited(s)
     }

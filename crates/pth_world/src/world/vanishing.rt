@@ -10,7 +10,7 @@ ghost use Rattle.pth_world.specs.Shows.{Shows};
 ghost use Rattle.pth_world.specs.Sound.{IsSound, IsKnown};
 ghost use Rattle.pth_world.specs.Store.{store_of};
 ghost use Rattle.pth_world.specs.Vanishing.{ReadsAlone, Vanishing};
-ghost use Rattle.pth_world.specs.Whole.{Whole};
+ghost use Rattle.pth_world.specs.WellFormed.{WellFormed};
 
 use crate::world::World;
 use pth_base::ids::Tid;
@@ -20,7 +20,7 @@ use pth_queue::queue::Queue;
 impl<P: Program> World<P> {
     // Takes all threads of one queue out of the system.
     fn empty_queue(&mut self, q: Queue)
-        requires { Whole self.old }
+        requires { WellFormed self.old }
         ensures vanishing { Vanishing self.old self.new }
         ensures none { rows_of q self.new.threads.queues ≡ [] }
     {
@@ -42,10 +42,10 @@ impl<P: Program> World<P> {
     /// Takes all threads but the one that runs out of the system, with what they stored. No ring is claimed any more, nobody has a seat
     /// at a condition, and nobody waits at a barrier (`pth_kill`).
     pub fn vanish_all_but(&mut self, t: Tid)
-        requires whole { Whole self.old }
+        requires whole { WellFormed self.old }
         requires runs { self.old.scheduler.running ≡ Some t.0 }
         ensures shows { (k : Control P P.State P.Shared) → Shows self.old k → Shows self.new (vanish_all_but t.0 k) }
-        ensures whole { Whole self.new }
+        ensures whole { WellFormed self.new }
         ensures made { self.new.threads.records.made ≡ self.old.threads.records.made }
         ensures ranks { KeepsRanks 0 self.old.threads self.new.threads }
         ensures events { self.new.events.made ≡ self.old.events.made }

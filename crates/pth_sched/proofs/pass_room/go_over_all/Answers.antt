@@ -8,7 +8,7 @@ use Rattle.pth_model.specs.Pass.{is_to_wake}
 use Rattle.pth_model.specs.RingWaits.{awaited_events}
 use Rattle.pth_model.specs.State.{State}
 use Rattle.pth_world.specs.Shows.{Shows, StandsFor}
-use Rattle.pth_world.specs.Whole.{Whole}
+use Rattle.pth_world.specs.WellFormed.{WellFormed}
 use Rattle.pth_world.specs.World.{WorldOf, ThreadsBySlot}
 use Rattle.pth_world.proofs.Events.{events_whole}
 use Rattle.pth_sched.proofs.Listing.{GoneOver, gone_none, gone_more, gone_shows, gone_listed, dead_still}
@@ -30,7 +30,7 @@ go_over-requires-clause-room g c =
     omega arith
 
 pub go_over-requires-clause-whole : goal.go_over-requires-clause-whole
-go_over-requires-clause-whole g c = subst (λ (w : WorldOf _ _ _). Whole w) (sym c.loop-slot.invariant.over.same) (events_whole c.args.w.now c.loop-slot.w.events c.requires.whole)
+go_over-requires-clause-whole g c = subst (λ (w : WorldOf _ _ _). WellFormed w) (sym c.loop-slot.invariant.over.same) (events_whole c.args.w.now c.loop-slot.w.events c.requires.whole)
 
 pub go_over-requires-clause-used : goal.go_over-requires-clause-used
 go_over-requires-clause-used g c =

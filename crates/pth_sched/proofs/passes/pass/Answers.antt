@@ -1,6 +1,6 @@
 use Rattle.std.proofs.Common.{◌∙◌, ap, sym, subst}
 use Rattle.std.proofs.lemmas.Result.{on_ok_weaker, on_err_weaker}
-use Rattle.pth_world.specs.Whole.{Whole}
+use Rattle.pth_world.specs.WellFormed.{WellFormed}
 use Rattle.pth_world.specs.World.{WorldOf}
 use Rattle.pth_world.specs.StateOf.{state_of}
 use Rattle.pth_world.proofs.Events.{events_whole}
@@ -13,7 +13,7 @@ use Rattle.pth_end.proofs.Wholes.{led_whole}
 use Rattle.pth_sched.proofs.passes.pass.Goals as goal
 
 pub wake_all-requires-clause-whole : goal.wake_all-requires-clause-whole
-wake_all-requires-clause-whole g c = subst (λ (w : WorldOf _ _ _). Whole w) (sym c.go_over.ensures.same) (events_whole c.args.w.now c.go_over.new.w.events c.requires.whole)
+wake_all-requires-clause-whole g c = subst (λ (w : WorldOf _ _ _). WellFormed w) (sym c.go_over.ensures.same) (events_whole c.args.w.now c.go_over.new.w.events c.requires.whole)
 
 pub wake_all-requires-clause-wait : goal.wake_all-requires-clause-wait
 wake_all-requires-clause-wait g c =

@@ -2,7 +2,7 @@ use Rattle.std.proofs.Common.{rules, SFits, w64, to_z-of_z}
 use Rattle.std.proofs.lemmas.Result.{on_err_weaker, on_ok_weaker}
 use Rattle.pth_base.proofs.Cuts.{cut_none}
 use Rattle.pth_queue.specs.declared.queue.Queue.TheVariants as queue
-use Rattle.pth_world.specs.Whole.{Waiting}
+use Rattle.pth_world.specs.WellFormed.{Waiting}
 use Rattle.pth_sched.proofs.Waking.{woken_leads, waits_still}
 use Rattle.pth_sched.proofs.passes.wake.Goals as goal
 

@@ -1,7 +1,7 @@
 use Rattle.std.proofs.Common.{◌≡◌, ◌∙◌, [], ap, sym, refl, rules, arith, SFits, w64, to_z-of_z}
 use Rattle.pth_queue.specs.declared.queue.Queue.TheVariants as queue
 use Rattle.pth_model.specs.State.{Scheduler}
-use Rattle.pth_world.specs.Whole.{Newly}
+use Rattle.pth_world.specs.WellFormed.{Newly}
 use Rattle.pth_sched.proofs.Keeping.{new_shorter, scheduler_first, scheduler_then}
 use Rattle.pth_sched.proofs.Readying.{rank_room, room_next, rises_none, rises_next, rises_all, some_ready, new_shows, comes_next, comes_end}
 use Rattle.pth_sched.proofs.turns.ready_new.Goals as goal

@@ -4,7 +4,7 @@ use Rattle.pth_model.specs.State.{Control}
 use Rattle.pth_world.specs.Ranks.{IsUnder, greatest_return}
 use Rattle.pth_world.specs.Shows.{Shows}
 use Rattle.pth_world.specs.Touches.{KeepsRest}
-use Rattle.pth_world.specs.Whole.{Whole, WaitsToRun}
+use Rattle.pth_world.specs.WellFormed.{WellFormed, WaitsToRun}
 use Rattle.pth_sched.specs.Passing.{HasRoom}
 use Rattle.pth_sched.proofs.Readying.{Comes, Rises}
 use Rattle.pth_sched.proofs.turns.ready_new.Given as goal
@@ -12,7 +12,7 @@ use Rattle.pth_sched.proofs.turns.ready_new.Given as goal
 abbrev pub invariant-loop-t : goal.invariant-loop-t
 invariant-loop-t g l = record {
   comes : (k : Control g.row.P.Denot g.row.P-State.Denot g.row.P-Shared.Denot) → Shows l.fn.w k → Comes l.w (readies_new k);
-  whole : Whole l.w;
+  whole : WellFormed l.w;
   scheduler : KeepsRest l.fn.w l.w;
   made : l.w.threads.records.made ≡ l.fn.w.threads.records.made;
   room : HasRoom l.w.threads.queues;

@@ -1,5 +1,5 @@
 use Rattle.std.proofs.Common.{sym, subst}
-use Rattle.pth_world.specs.Whole.{WaitsToRun}
+use Rattle.pth_world.specs.WellFormed.{WaitsToRun}
 use Rattle.pth_sched.proofs.turns.tick.Goals as goal
 
 pub returns-clause-stays : goal.returns-clause-stays

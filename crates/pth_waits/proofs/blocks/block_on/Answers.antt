@@ -7,7 +7,7 @@ use Rattle.pth_world.specs.Frame.{Frame}
 use Rattle.pth_world.specs.Numbering.{no_numbers}
 use Rattle.pth_world.specs.Shows.{Shows}
 use Rattle.pth_world.specs.Store.{store_of}
-use Rattle.pth_world.specs.Whole.{MayAwaitAs, Whole}
+use Rattle.pth_world.specs.WellFormed.{MayAwaitAs, WellFormed}
 use Rattle.pth_world.specs.World.{WorldOf}
 use Rattle.pth_waits.proofs.Blocking.{blocked_twice, progress_frame, waits_on_leads}
 use Rattle.pth_waits.proofs.blocks.block_on.Goals as goal
@@ -36,4 +36,4 @@ returns-clause-frame g c = on_ok_weaker c.push.result (λ told.
     let p = c.block.new.self.threads.progress in
     let same = c.block.ensures.same ∙ ap (λ (v : WorldOf _ _ _). record v { threads = record v.threads { progress = p } }) c.take_blocked.ensures.same in
     subst (λ (v : WorldOf _ _ _). Frame c.args.w.now v no_numbers (Some t) false) (sym same)
-    (progress_frame c.args.w.now p (Some t) c.requires.runs (subst (λ (v : WorldOf _ _ _). Whole v) same whole))) c.push.ensures.ok
+    (progress_frame c.args.w.now p (Some t) c.requires.runs (subst (λ (v : WorldOf _ _ _). WellFormed v) same whole))) c.push.ensures.ok

@@ -1,7 +1,7 @@
 use Rattle.std.proofs.Common.{ap, false, refl, Some, subst, sym, to_z-of_z}
 use Rattle.pth_world.specs.Frame.{Frame}
 use Rattle.pth_world.specs.Numbering.{no_numbers}
-use Rattle.pth_world.specs.Whole.{Whole}
+use Rattle.pth_world.specs.WellFormed.{WellFormed}
 use Rattle.pth_world.specs.World.{WorldOf}
 use Rattle.pth_waits.proofs.Blocking.{progress_frame}
 use Rattle.pth_waits.proofs.NoticeWaits.{blocked_goes}
@@ -16,7 +16,7 @@ returns-clause-goes g c =
 pub returns-clause-frame : goal.returns-clause-frame
 returns-clause-frame g c =
     subst (λ (v : WorldOf _ _ _). Frame c.args.w.now v no_numbers (Some c.args.t.0) false) (sym c.block.ensures.same)
-    (progress_frame c.args.w.now c.block.new.self.threads.progress (Some c.args.t.0) c.requires.runs (subst (λ (v : WorldOf _ _ _). Whole v) c.block.ensures.same (c.block.ensures.whole c.requires.whole refl)))
+    (progress_frame c.args.w.now c.block.new.self.threads.progress (Some c.args.t.0) c.requires.runs (subst (λ (v : WorldOf _ _ _). WellFormed v) c.block.ensures.same (c.block.ensures.whole c.requires.whole refl)))
 
 pub returns-in_err-push-clause-goes : goal.returns-in_err-push-clause-goes
 returns-in_err-push-clause-goes g c =

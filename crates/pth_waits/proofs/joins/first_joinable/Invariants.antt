@@ -4,7 +4,7 @@ use Rattle.pth_model.specs.State.{Control}
 use Rattle.pth_threads.specs.Threads.{number_of}
 use Rattle.pth_world.specs.Shows.{Shows}
 use Rattle.pth_world.specs.Sound.{IsKnown}
-use Rattle.pth_world.specs.Whole.{IsIn}
+use Rattle.pth_world.specs.WellFormed.{IsIn}
 use Rattle.pth_waits.proofs.Searching.{to_visit, Searched}
 use Rattle.pth_waits.proofs.joins.first_joinable.Given as goal
 

@@ -10,7 +10,7 @@ use Rattle.pth_sched.proofs.Following.{made_part}
 use Rattle.pth_sched.proofs.Moving.{empty_is_idle}
 use Rattle.pth_sched.proofs.Parts.{part_move, makes_as}
 use Rattle.std.proofs.Common.{OnOk}
-use Rattle.pth_end.specs.Whole.{FullWhole}
+use Rattle.pth_end.specs.Whole.{Whole}
 use Rattle.pth_sched.specs.MachineOf.{MachineOf}
 use Rattle.pth_sched.proofs.machine.Machine.idle.Goals as goal
 
@@ -40,4 +40,4 @@ returns-clause-follows g c =
     IfOk-weaker c.idle-moved.result _ _ (λ moved makes yes x i st. made_part g.P.Program.functions x i c.args.self.now _ _ _ (λ k at. makes_as _ _ _ (part_move g.P.Program.functions _ k at c.requires.goes gave c.requires.nobody (empty_is_idle _ _ at.world.control c.requires.none_new c.requires.none_ready)) _ _ (makes yes k at)) st) (returns-clause-moves g c)
 
 pub returns-clause-whole : goal.returns-clause-whole
-returns-clause-whole g c = subst (λ (m : MachineOf _ _ _). OnOk c.idle-moved.result (FullWhole m.world → FullWhole c.idle-moved.new.self.world)) c.self.view_is c.idle-moved.ensures.whole
+returns-clause-whole g c = subst (λ (m : MachineOf _ _ _). OnOk c.idle-moved.result (Whole m.world → Whole c.idle-moved.new.self.world)) c.self.view_is c.idle-moved.ensures.whole

@@ -3,7 +3,7 @@ use Rattle.std.proofs.lemmas.Result.{err_from_is_err_and}
 use Rattle.pth_sched.specs.Running.{Stands}
 use Rattle.pth_sched.proofs.Moving.{moves_as}
 use Rattle.pth_sched.proofs.Parts.{makes_as, cut_as}
-use Rattle.pth_end.specs.Whole.{FullWhole}
+use Rattle.pth_end.specs.Whole.{Whole}
 use Rattle.pth_sched.specs.MachineOf.{MachineOf}
 use Rattle.pth_sched.proofs.schedule.Schedule.idle.Goals as goal
 
@@ -20,4 +20,4 @@ returns-in_ok-move_to-in-Some-clause-moves g c = λ yes x st.
     makes_as _ _ _ (moves_as g.P.Program.functions x.turn x.state _ (c.in-Some.ensures.moment x.state inside.world)) _ _ (c.in_ok-move_to-in-Some.ensures.ok x inside)
 
 pub returns-in_ok-move_to-in-Some-clause-whole : goal.returns-in_ok-move_to-in-Some-clause-whole
-returns-in_ok-move_to-in-Some-clause-whole g c = λ full. c.in_ok-move_to-in-Some.ensures.whole (subst (λ (m : MachineOf _ _ _). FullWhole m.world) (sym c.self.view_is) full)
+returns-in_ok-move_to-in-Some-clause-whole g c = λ full. c.in_ok-move_to-in-Some.ensures.whole (subst (λ (m : MachineOf _ _ _). Whole m.world) (sym c.self.view_is) full)

@@ -3,7 +3,7 @@ use Rattle.std.proofs.lemmas.Result.{err_from_is_err_and, on_ok_weaker, on_err_w
 use Rattle.pth_base.proofs.Cuts.{cut_none}
 use Rattle.pth_sched.specs.Running.{Stands, Keeps}
 use Rattle.pth_sched.proofs.Moving.{moved_keeps, moved_stands, move_makes, move_cut}
-use Rattle.pth_end.specs.Whole.{FullWhole}
+use Rattle.pth_end.specs.Whole.{Whole}
 use Rattle.pth_end.proofs.Wholes.{kernel_whole}
 use Rattle.pth_sched.specs.MachineOf.{MachineOf}
 use Rattle.pth_sched.proofs.schedule.Schedule.move_to.Goals as goal
@@ -34,4 +34,4 @@ returns-clause-err g c =
 
 pub returns-clause-whole : goal.returns-clause-whole
 returns-clause-whole g c =
-    on_ok_weaker c.pass.result (λ passed full. passed (kernel_whole _ _ _ c.set_time.ensures.whole c.set_time.ensures.same (subst (λ (m : MachineOf _ _ _). FullWhole m.world) (sym c.self.view_is) full))) c.pass.ensures.whole
+    on_ok_weaker c.pass.result (λ passed full. passed (kernel_whole _ _ _ c.set_time.ensures.whole c.set_time.ensures.same (subst (λ (m : MachineOf _ _ _). Whole m.world) (sym c.self.view_is) full))) c.pass.ensures.whole

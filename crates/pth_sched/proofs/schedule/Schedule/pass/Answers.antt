@@ -3,7 +3,7 @@ use Rattle.std.proofs.lemmas.Result.{on_ok_weaker, on_err_weaker}
 use Rattle.pth_sched.specs.Running.{Stands, Keeps}
 use Rattle.pth_sched.proofs.Moving.{pass_makes, pass_keeps}
 use Rattle.std.proofs.Common.{OnOk}
-use Rattle.pth_end.specs.Whole.{FullWhole}
+use Rattle.pth_end.specs.Whole.{Whole}
 use Rattle.pth_sched.specs.MachineOf.{MachineOf}
 use Rattle.pth_sched.proofs.schedule.Schedule.pass.Goals as goal
 
@@ -25,4 +25,4 @@ returns-clause-keeps g c =
     pass_keeps _ _ c.pass.result before refl c.pass.ensures.only_wakes
 
 pub returns-clause-whole : goal.returns-clause-whole
-returns-clause-whole g c = subst (λ (m : MachineOf _ _ _). OnOk c.pass.result (FullWhole m.world → FullWhole c.pass.new.w)) c.self.view_is c.pass.ensures.keeps
+returns-clause-whole g c = subst (λ (m : MachineOf _ _ _). OnOk c.pass.result (Whole m.world → Whole c.pass.new.w)) c.self.view_is c.pass.ensures.keeps

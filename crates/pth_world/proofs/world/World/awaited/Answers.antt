@@ -3,7 +3,7 @@ use Rattle.pth_model.specs.RingWaits.{awaited_in}
 use Rattle.pth_model.specs.Changes.{blocked_in}
 use Rattle.pth_model.specs.declared.awaits.Awaited.{Awaited}
 use Rattle.pth_tables.specs.Progress.{awaited_at}
-use Rattle.pth_world.specs.Whole.{MayAwait}
+use Rattle.pth_world.specs.WellFormed.{MayAwait}
 use Rattle.pth_world.proofs.Awaiting.{may_await}
 use Rattle.pth_world.proofs.Moves.{blocked_may}
 use Rattle.pth_world.proofs.Showing.{progress_is, no_progress}

@@ -2,7 +2,7 @@ use Rattle.std.proofs.Common.{◌∙◌, sym, ap, subst}
 use Rattle.pth_threads.specs.Threads.{tid_at}
 use Rattle.pth_model.specs.declared.awaits.Awaited.{Awaited}
 use Rattle.pth_tables.specs.Progress.{awaited_at}
-use Rattle.pth_world.specs.Whole.{MayAwait}
+use Rattle.pth_world.specs.WellFormed.{MayAwait}
 use Rattle.pth_world.proofs.Awaiting.{may_await}
 use Rattle.pth_world.proofs.Moves.{blocked_may}
 use Rattle.pth_world.proofs.Showing.{progress_is}

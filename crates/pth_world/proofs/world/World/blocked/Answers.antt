@@ -1,7 +1,7 @@
 use Rattle.std.proofs.Common.{◌∙◌, Option, IfSome, sym, ap, subst}
 use Rattle.pth_model.specs.Changes.{blocked_in}
 use Rattle.pth_model.specs.declared.blocked.Blocked.{Blocked}
-use Rattle.pth_world.specs.Whole.{MayBlock}
+use Rattle.pth_world.specs.WellFormed.{MayBlock}
 use Rattle.pth_world.proofs.Moves.{blocked_may}
 use Rattle.pth_world.proofs.Showing.{progress_is, no_progress}
 use Rattle.pth_world.proofs.world.World.blocked.Goals as goal

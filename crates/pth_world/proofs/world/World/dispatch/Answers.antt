@@ -6,7 +6,7 @@ use Rattle.pth_model.specs.Changes.{leaves_queue, or_nobody, trails}
 use Rattle.pth_model.specs.Part.{runs}
 use Rattle.pth_world.specs.World.{WorldOf}
 use Rattle.pth_world.specs.Sound.{IsSound}
-use Rattle.pth_world.specs.Whole.{View}
+use Rattle.pth_world.specs.WellFormed.{View}
 use Rattle.pth_world.specs.Touches.{Touches, view_placed, view_changed}
 use Rattle.pth_world.proofs.Moves.{runs_whole, two_touches, same_twice, queues_alone}
 use Rattle.pth_world.proofs.Ranks.{ranks_left}

@@ -3,7 +3,7 @@ use Rattle.pth_threads.specs.Threads.{slot_of}
 use Rattle.pth_model.specs.Changes.{leaves_queue, forgets}
 use Rattle.pth_world.specs.World.{WorldOf}
 use Rattle.pth_world.specs.Sound.{IsSound}
-use Rattle.pth_world.specs.Whole.{View, view}
+use Rattle.pth_world.specs.WellFormed.{View, view}
 use Rattle.pth_world.proofs.Slots.{other_slot}
 use Rattle.pth_world.proofs.Showing.{of_threads, drop_shows}
 use Rattle.pth_world.proofs.Sound.{drop_sound}

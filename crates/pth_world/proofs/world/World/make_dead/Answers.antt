@@ -6,7 +6,7 @@ use Rattle.pth_threads.specs.declared.entry.Change.TheVariants as change
 use Rattle.pth_model.specs.Ending.{is_dead_with}
 use Rattle.pth_world.specs.World.{WorldOf}
 use Rattle.pth_world.specs.Sound.{IsSound}
-use Rattle.pth_world.specs.Whole.{View}
+use Rattle.pth_world.specs.WellFormed.{View}
 use Rattle.pth_world.specs.Touches.{Touches, view_placed, view_changed}
 use Rattle.pth_world.proofs.Moves.{dead_whole, known_slot, left_nowhere, nowhere_after, two_touches, same_twice, queues_alone, stopped_then, threads_alone, threads_then}
 use Rattle.pth_world.proofs.Ranks.{ranks_dead}

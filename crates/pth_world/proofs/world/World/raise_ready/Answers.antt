@@ -2,7 +2,7 @@ use Rattle.std.proofs.Common.{◌∙◌, ap, refl, subst, sym}
 use Rattle.pth_tables.specs.CountedOf.{KeptQueues}
 use Rattle.pth_world.proofs.Waits.{kept_queues, kept_waits}
 use Rattle.pth_model.specs.Changes.{raises_ready}
-use Rattle.pth_world.specs.Whole.{View, Fits}
+use Rattle.pth_world.specs.WellFormed.{View, Fits}
 use Rattle.pth_world.proofs.Showing.{of_threads, raise_shows}
 use Rattle.pth_world.proofs.Sound.{raise_sound}
 use Rattle.pth_world.proofs.Views.{raise_views}

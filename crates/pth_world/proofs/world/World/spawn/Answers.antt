@@ -1,6 +1,6 @@
 use Rattle.std.proofs.Common.{ap, sym, subst, refl, rules, arith, SFits, w64, to_z-of_z}
 use Rattle.pth_world.specs.Numbering.{Thread}
-use Rattle.pth_world.specs.Whole.{Whole}
+use Rattle.pth_world.specs.WellFormed.{WellFormed}
 use Rattle.pth_world.specs.World.{WorldOf}
 use Rattle.pth_world.proofs.Slots.{prio_fits}
 use Rattle.pth_queue.specs.declared.queue.Queue.TheVariants as queue
@@ -19,7 +19,7 @@ pub add-requires-clause-few : goal.add-requires-clause-few
 add-requires-clause-few g c = let few = c.requires.few Thread in omega arith
 
 pub returns-in_err-t-clause-whole_still : goal.returns-in_err-t-clause-whole_still
-returns-in_err-t-clause-whole_still g c = on_err _ (subst Whole (sym c.add.ensures.same) (same_whole c.args.self.now _ c.in_err-t.ensures.err c.requires.whole))
+returns-in_err-t-clause-whole_still g c = on_err _ (subst WellFormed (sym c.add.ensures.same) (same_whole c.args.self.now _ c.in_err-t.ensures.err c.requires.whole))
 
 pub insert-requires-clause-nowhere : goal.insert-requires-clause-nowhere
 insert-requires-clause-nowhere g c =

@@ -1,4 +1,5 @@
--- What holds of every world between two calls, and of each thread but one while that thread is changed.
+-- How the threads of a world, where they stand, and what they have stored fit each other between two calls; and all threads but one
+-- while that thread is changed. What holds of waits besides is a part of `Whole` (pth_end).
 use Rattle.std.specs.Prelude.{◌≡◌, ◌≢◌, ◌≤◌, ◌<◌, ◌^◌, ℕ, ℤ, length, Bool, true, false, Option, Some, None, IfSome}
 use Rattle.pth_base.specs.Limits.{last_moment}
 use Rattle.pth_base.specs.Table.{table}
@@ -132,8 +133,8 @@ IsRunnerBut w t = IfSome w.scheduler.running (λ r. r ≢ t → IsKnown w.thread
 abbrev pub StoresAlive : {P S H : Type 0} → WorldOf P S H → ℕ → Type 0
 StoresAlive w t = lives (entry_in w.threads t) ≡ false → HasNothing (store_of w.store) t
 
--- what holds of every world between two calls
-pub record Whole {P S H : Type 0} (w : WorldOf P S H) : Type 0 where
+-- the threads of a world, where they stand, and what they have stored fit each other
+pub record WellFormed {P S H : Type 0} (w : WorldOf P S H) : Type 0 where
   pub sound : IsSound w.threads
   pub fits : (u : ℕ) → Fits w.scheduler.running (view w.threads u)
   pub runner : IsRunner w
@@ -142,7 +143,7 @@ pub record Whole {P S H : Type 0} (w : WorldOf P S H) : Type 0 where
   pub top : w.attributes.top ≡ w.threads.queues.top
 
 -- what holds of it while thread t is changed: all but what is said of t itself. Nor need t be in the system if it runs.
-pub record WholeBut {P S H : Type 0} (w : WorldOf P S H) (t : ℕ) : Type 0 where
+pub record WellFormedBut {P S H : Type 0} (w : WorldOf P S H) (t : ℕ) : Type 0 where
   pub sound : IsSound w.threads
   pub fits : (u : ℕ) → tid_at w.threads.records u ≢ t → Fits w.scheduler.running (view w.threads u)
   pub runner : IsRunnerBut w t
