@@ -8,7 +8,7 @@ use Rattle.pth_laws.specs.InOrder.{IsInOrderAt, queue}
 use Rattle.pth_laws.specs.InTime.{InTime, IsInTime}
 use Rattle.pth_laws.specs.Orderly.{Orderly, IsOrderlyAt}
 use Rattle.pth_audit.specs.Auditing.{Follows}
-use Rattle.pth_audit.specs.Verdicts.{IsLawful, BreaksFirst, IsBrokenAt}
+use Rattle.pth_audit.specs.Verdicts.{IsLawful, BreaksFirst, IsBrokenAt, BeginsLawfully}
 use Rattle.pth_audit.specs.declared.auditor.Auditor.{Auditor}
 use Rattle.pth_audit.specs.declared.verdict.AuditRule.{AuditRule}
 use Rattle.pth_audit.specs.declared.verdict.AuditRule.TheVariants as rule
@@ -100,3 +100,13 @@ broken_there marks i m r low here lawful breaks = record {
 -- an auditor that follows the marks up to place i and the one that stands there follows those up to place i + 1
 pub followed_more : (a : Auditor) (marks : List Mark) (i : ℕ) (m : Mark) → i < length marks → m ≡ get_or marks i m → Follows a (take i marks ++ m ∷ []) → Follows a (take (i + 1) marks)
 followed_more a marks i m low here f = subst (Follows a) (sym (take_more marks i m low ∙ ap (λ x. take i marks ++ x ∷ []) (sym here))) f
+
+-- the marks up to place i are lawful with the one that stands there
+pub begins_there : (marks : List Mark) (i : ℕ) (m : Mark) → i < length marks → m ≡ get_or marks i m → IsLawful (take i marks ++ m ∷ []) → BeginsLawfully marks
+begins_there marks i m low here lawful = record {
+  before = take i marks;
+  mark = m;
+  later = drop (i + 1) marks;
+  all = sym (take-append-drop i marks) ∙ ap (λ l. take i marks ++ l) (drop_more marks i m low ∙ ap (λ x. x ∷ drop (i + 1) marks) (sym here));
+  lawful = lawful;
+}

@@ -1,6 +1,7 @@
 pub mod Auditing
 pub mod Blocks
 pub mod Circles
+pub mod Counted
 pub mod Few
 pub mod Finding
 pub mod Following

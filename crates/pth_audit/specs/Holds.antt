@@ -1,5 +1,5 @@
 -- What a judge of exclusive marks keeps of the marks that it has met: who awaits, who has levels of mutexes, and who holds locks.
-use Rattle.std.specs.Prelude.{◌≡◌, ◌≢◌, ◌<◌, ℕ, ◌+◌, ◌-◌, ◌==◌, ◌&&◌, ◌||◌, not, ℤ, pos, Bool, true, false, if◌then◌else◌, Option, Some, None, List}
+use Rattle.std.specs.Prelude.{◌≡◌, ◌≢◌, ◌<◌, ◌^◌, ℕ, ◌+◌, ◌-◌, ◌==◌, ◌&&◌, ◌||◌, not, ℤ, pos, Bool, true, false, if◌then◌else◌, Option, Some, None, List}
 use Rattle.std.specs.BTreeMap.{get}
 use Rattle.std.specs.BTreeSet.{BTreeSet, contains}
 use Rattle.std.specs.Ordering.{nat_cmp, int_cmp, ordering_then}
@@ -170,6 +170,11 @@ IsFair h (deed.GivesUp t i) = 0 < has_levels h t i
 IsFair h (deed.Enters t l write) = IsOpen h l write
 IsFair h (deed.Leaves t l) = (has_written h t l || has_read h t l) ≡ true
 IsFair h (deed.Ends t) = HasNothing h t
+
+-- a count can have the level that a deed takes
+abbrev pub IsCountable : Holds → Deed → Type 0
+IsCountable h (deed.Takes t i) = has_levels h t i + 1 < 2 ^ 64
+IsCountable h d = Unit {0}
 
 -- what a deed leaves, if it was fair
 pub record IsDone (old new : Holds) (d : Deed) : Type 0 where

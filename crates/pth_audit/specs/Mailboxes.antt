@@ -1,5 +1,5 @@
 -- The messages that marks tell of, as the judge of their order keeps them.
-use Rattle.std.specs.Prelude.{◌≡◌, ◌==◌, ◌&&◌, ◌++◌, ◌∷◌, [], ℕ, ℤ, Bool, true, false, List, length, map, Option, Some, None, is_some, option_map, if◌then◌else◌}
+use Rattle.std.specs.Prelude.{◌≡◌, ◌+◌, ◌<◌, ◌^◌, ◌==◌, ◌&&◌, ◌++◌, ◌∷◌, [], ℕ, ℤ, Bool, true, false, List, length, map, Option, Some, None, is_some, option_map, if◌then◌else◌}
 use Rattle.std.specs.Ordering.{int_eq}
 use Rattle.std.specs.declared.collections.VecDeque.{VecDeque}
 use Rattle.pth_base.specs.Table.{put}
@@ -51,6 +51,10 @@ without_first p (m ∷ ms) f = put f p (Some ms)
 -- all messages that the judge has
 abbrev pub mail_of : Mailboxes → Mail
 mail_of b = record { at = queues_of b.ports.entries; kept = kept_of b.kept.entries; made = b.made }
+
+-- one message more has a number
+abbrev pub HasNumber : Mailboxes → Type 0
+HasNumber b = b.made + 1 < 2 ^ 64
 
 -- the judge has the messages after these marks
 pub record FollowsMail (b : Mailboxes) (marks : List Mark) : Type 0 where

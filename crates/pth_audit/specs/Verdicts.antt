@@ -38,3 +38,11 @@ pub record IsBrokenAt (marks : List Mark) (at : ℕ) (r : AuditRule) : Type 0 wh
 abbrev pub IsVerdict : List Mark → Verdict → Type 0
 IsVerdict marks Yes = IsLawful marks
 IsVerdict marks (No at r) = IsBrokenAt marks at r
+
+-- a mark and those before it meet the four laws
+pub record BeginsLawfully (marks : List Mark) : Type 0 where
+  pub before : List Mark
+  pub mark : Mark
+  pub later : List Mark
+  pub all : marks ≡ before ++ mark ∷ later
+  pub lawful : IsLawful (before ++ mark ∷ [])

@@ -1,12 +1,13 @@
 //! Marks judged one by one.
 
-ghost use Rattle.std.specs.Prelude.{◌≡◌, [], ◌∷◌, ◌++◌, List, IfOk, OnOk, IsTrue, false};
+ghost use Rattle.std.specs.Prelude.{◌≡◌, ◌+◌, ◌≤◌, ◌^◌, [], ◌∷◌, ◌++◌, length, List, IfOk, OnOk, OnErr, IsErrOf, IsSome, IsTrue, false};
 ghost use Rattle.pth_audit.specs.Auditing.{Follows, IsBrokenBy, IsAdded};
-ghost use Rattle.pth_audit.specs.Verdicts.{IsLawful, IsVerdict};
+ghost use Rattle.pth_audit.specs.Verdicts.{IsLawful, IsVerdict, BeginsLawfully};
 ghost use Rattle.pth_base.specs.declared.mark.Mark.{Mark as MarkOf};
 ghost use Rattle.pth_laws.specs.InTime.{IsInTime};
 
 use crate::endings::Endings;
+use crate::error::AuditErr;
 use crate::holds::Holds;
 use crate::mailboxes::Mailboxes;
 use crate::verdict::{AuditRule, Verdict};
@@ -67,19 +68,28 @@ impl Auditor {
     }
 
     // Follows one mark more, with which the marks are lawful.
-    fn follow(&mut self, mark: &Mark) -> Result<(), OutOfMemory>
-        ensures { OnOk result ((marks : List MarkOf) → Follows self.old marks → IsLawful (marks ++ mark.now ∷ [])
+    fn follow(&mut self, mark: &Mark) -> Result<(), AuditErr>
+        ensures follows { OnOk result ((marks : List MarkOf) → Follows self.old marks → IsLawful (marks ++ mark.now ∷ [])
             → Follows self.new (marks ++ mark.now ∷ [])) }
+        ensures overflow { IsErrOf result AuditErr.Overflow → (marks : List MarkOf) → Follows self.old marks
+            → 2 ^ 64 ≤ length marks + 1 }
     {
         self.endings.add(mark)?;
         self.holds.add(mark)?;
         self.mail.add(mark)
     }
 
-    /// Follows one mark more, if the marks meet the four laws with it. Else it answers the first of the four that they break, and may only be
-    /// dropped; and so after an error.
-    pub fn add(&mut self, mark: &Mark) -> Result<Option<AuditRule>, OutOfMemory>
-        ensures { IfOk result (λ rule. (marks : List MarkOf) → Follows self.old marks → IsAdded rule self.new marks mark.now) }
+    /// Follows one mark more, if the marks meet the four laws with it. Otherwise it returns the first of the four that they break, and
+    /// stays as it was. An error comes only at a mark with which they meet the laws, and the auditor may then only be dropped. The counts
+    /// overflow after 2^64 - 1 marks at the earliest.
+    pub fn add(&mut self, mark: &Mark) -> Result<Option<AuditRule>, AuditErr>
+        ensures added { IfOk result (λ rule. (marks : List MarkOf) → Follows self.old marks
+            → IsAdded rule self.new marks mark.now) }
+        ensures same { IfOk result (λ rule. IsSome rule → self.new ≡ self.old) }
+        ensures memory { OnErr result ((marks : List MarkOf) → Follows self.old marks
+            → IsLawful (marks ++ mark.now ∷ [])) }
+        ensures overflow { IsErrOf result AuditErr.Overflow → (marks : List MarkOf) → Follows self.old marks
+            → 2 ^ 64 ≤ length marks + 1 }
     {
         let broken = self.broken(mark);
         if broken.is_none() {
@@ -89,17 +99,25 @@ impl Auditor {
     }
 }
 
-/// The verdict on a list of marks by the four laws, from the marks alone.
+/// The verdict on a list of marks by the four laws, from the marks alone. Memory runs out only at a mark with which the marks up to it
+/// meet the four laws.
 pub fn audit(alloc: Global, marks: &[Mark]) -> Result<Verdict, OutOfMemory>
-    ensures { IfOk result (λ v. IsVerdict marks.now v) }
+    ensures verdict { IfOk result (λ v. IsVerdict marks.now v) }
+    ensures memory { OnErr result (BeginsLawfully marks.now) }
 {
     let mut auditor = Auditor::new(alloc);
     for (i, mark) in marks.iter().enumerate() {
-        if let Some(rule) = auditor.add(mark)? {
-            return Ok(Verdict::No {
-                at: i as u64 + 1,
-                rule,
-            });
+        match auditor.add(mark) {
+            Ok(None) => {}
+            Ok(Some(rule)) => {
+                return Ok(Verdict::No {
+                    at: i as u64 + 1,
+                    rule,
+                });
+            }
+            Err(AuditErr::OutOfMemory) => return Err(OutOfMemory),
+            // A slice has fewer marks than it takes.
+            Err(AuditErr::Overflow) => unreachable!(),
         }
     }
     Ok(Verdict::Yes)

@@ -1,17 +1,18 @@
 //! The judge of exclusive marks: who has mutexes and locks, by the marks that it has met.
 
-ghost use Rattle.std.specs.Prelude.{◌≡◌, ◌≢◌, ◌==◌, ◌||◌, ◌&&◌, not, ◌<◌, ℕ, ℤ, true, false, List, [], ◌∷◌, ◌++◌, OnOk, if◌then◌else◌};
+ghost use Rattle.std.specs.Prelude.{◌≡◌, ◌≢◌, ◌==◌, ◌||◌, ◌&&◌, not, ◌+◌, ◌<◌, ◌≤◌, ◌^◌, ℕ, ℤ, true, false, length, List, [], ◌∷◌, ◌++◌, OnOk, IsErrOf, if◌then◌else◌};
 ghost use Rattle.std.specs.Bool.{Decides};
 ghost use Rattle.std.specs.BTreeMap.{get, values, IsOrdered};
 ghost use Rattle.std.specs.BTreeSet.{contains};
 ghost use Rattle.std.specs.List.{list_any};
 ghost use Rattle.std.specs.Ordering.{int_cmp, int_eq, nat_cmp};
 ghost use Rattle.pth_base.specs.declared.mark.Mark.{Mark as MarkOf};
-ghost use Rattle.pth_audit.specs.Holds.{answered_deed, waits_deed, deed_of, answered_step, waits_step, step_of, has_awaited, has_levels, has_written, has_read, reads_under, awaits_by, levels_of, has_level, is_writer, FollowsHolds, HasNothing, IsOpen, IsFair, IsDone};
+ghost use Rattle.pth_audit.specs.Holds.{answered_deed, waits_deed, deed_of, answered_step, waits_step, step_of, has_awaited, has_levels, has_written, has_read, reads_under, awaits_by, levels_of, has_level, is_writer, FollowsHolds, HasNothing, IsOpen, IsFair, IsCountable, IsDone};
 ghost use Rattle.pth_audit.specs.declared.holds.Deed.TheVariants.{Takes, Gives, GivesUp, Enters, Leaves};
 ghost use Rattle.pth_laws.specs.Exclusive.{IsExclusiveAt, is_of};
 ghost use Rattle.pth_laws.specs.Marks.{is_same};
 
+use crate::error::AuditErr;
 use crate::success::is_one;
 use pth_base::act::Act;
 use pth_base::answer::Answer;
@@ -411,11 +412,29 @@ impl Holds {
         }
     }
 
+    // Whether a count can have one level more of a thread.
+    fn has_count(&self, t: u32, i: i64) -> bool
+        ensures { Decides result (has_levels self.now t i + 1 < 2 ^ 64) }
+    {
+        self.levels(t, i) < u64::MAX
+    }
+
+    // Whether a count can have the level that a deed takes.
+    fn is_countable(&self, deed: Deed) -> bool
+        ensures { Decides result (IsCountable self.now deed) }
+    {
+        match deed {
+            Deed::Takes(t, i) => self.has_count(t, i),
+            _ => true,
+        }
+    }
+
     // A thread takes a level of a mutex that no other one has.
     fn take(&mut self, t: u32, i: i64) -> Result<(), OutOfMemory>
+        requires { IsCountable self.old (Takes t i) }
         ensures { OnOk result (IsFair self.old (Takes t i) → IsDone self.old self.new (Takes t i)) }
     {
-        let levels = self.levels(t, i).checked_add(1).ok_or(OutOfMemory)?;
+        let levels = self.levels(t, i) + 1;
         set_levels(&mut self.owners, t, i, levels)
     }
 
@@ -455,6 +474,7 @@ impl Holds {
 
     // A deed is done.
     fn carry_out(&mut self, deed: Deed) -> Result<(), OutOfMemory>
+        requires { IsCountable self.old deed }
         ensures { OnOk result (IsFair self.old deed → IsDone self.old self.new deed) }
     {
         match deed {
@@ -479,11 +499,17 @@ impl Holds {
     }
 
     /// Meets one more mark, which keeps the law.
-    pub(crate) fn add(&mut self, mark: &Mark) -> Result<(), OutOfMemory>
-        ensures { OnOk result ((marks : List MarkOf) → FollowsHolds self.old marks → IsExclusiveAt marks mark.now
+    pub(crate) fn add(&mut self, mark: &Mark) -> Result<(), AuditErr>
+        ensures follows { OnOk result ((marks : List MarkOf) → FollowsHolds self.old marks → IsExclusiveAt marks mark.now
             → FollowsHolds self.new (marks ++ mark.now ∷ [])) }
+        ensures overflow { IsErrOf result AuditErr.Overflow → (marks : List MarkOf) → FollowsHolds self.old marks
+            → 2 ^ 64 ≤ length marks + 1 }
     {
-        self.carry_out(self.deed(mark))?;
-        set_awaiting(&mut self.awaiting, step_of(mark))
+        let deed = self.deed(mark);
+        if !self.is_countable(deed) {
+            return Err(AuditErr::Overflow);
+        }
+        self.carry_out(deed)?;
+        Ok(set_awaiting(&mut self.awaiting, step_of(mark))?)
     }
 }

@@ -5,6 +5,7 @@ pub mod auditor;
 mod block;
 pub mod cycle;
 mod endings;
+pub mod error;
 mod handlers;
 mod holds;
 pub mod laws;

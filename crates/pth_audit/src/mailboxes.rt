@@ -1,15 +1,16 @@
 //! Whether marks are in order: who gets a message of a port gets the oldest one, nobody is told that there is none while there is one, and
 //! whoever asks how many there are is told.
 
-ghost use Rattle.std.specs.Prelude.{◌≡◌, ◌+◌, ◌==◌, ◌++◌, ◌∷◌, [], ◌↔◌, ℕ, List, None, Some, true, OnOk, IsTrue, is_some, length, option_map, map, if◌then◌else◌};
+ghost use Rattle.std.specs.Prelude.{◌≡◌, ◌+◌, ◌==◌, ◌++◌, ◌∷◌, [], ◌↔◌, ◌≤◌, ◌^◌, ℕ, List, None, Some, true, OnOk, IsErrOf, IsTrue, is_some, length, option_map, map, if◌then◌else◌};
 ghost use Rattle.pth_base.specs.Table.{put};
 ghost use Rattle.pth_base.specs.declared.ids.Tid.{Tid};
 ghost use Rattle.pth_base.specs.declared.mark.Mark.{Mark as MarkOf};
 ghost use Rattle.pth_numbered.specs.Operands.{number, ◌is◌};
 ghost use Rattle.pth_port.specs.Mail.{messages_of, with_port, put_to, sent, sent_back, got, replied, closed_port};
 ghost use Rattle.pth_laws.specs.InOrder.{port_index, reply_index, mail_after, queue, IsInOrderAt};
-ghost use Rattle.pth_audit.specs.Mailboxes.{message_of, messages_in, queues_of, kept_of, mail_of, sent_at, first, without_first, created, got_of, is_first, is_got_in_order, is_counted_in_order, is_answer_in_order, is_in_order, queue_in, FollowsMail};
+ghost use Rattle.pth_audit.specs.Mailboxes.{message_of, messages_in, queues_of, kept_of, mail_of, sent_at, first, without_first, created, got_of, is_first, is_got_in_order, is_counted_in_order, is_answer_in_order, is_in_order, queue_in, HasNumber, FollowsMail};
 
+use crate::error::AuditErr;
 use crate::success::is_one;
 use pth_base::act::Act;
 use pth_base::answer::Answer;
@@ -271,6 +272,7 @@ impl Mailboxes {
 
     // A message is put, where there is the port, and the port for the reply.
     fn put(&mut self, i: u128, value: i64, reply: u128) -> Result<(), OutOfMemory>
+        requires { HasNumber self.old }
         ensures { OnOk result (mail_of self.new ≡ put_to i value reply (mail_of self.old)) }
     {
         if has_port(&self.ports, i) && (reply == 0 || has_port(&self.ports, reply)) {
@@ -282,11 +284,12 @@ impl Mailboxes {
 
     // A message is put, with the next number.
     fn put_next(&mut self, i: u128, value: i64, reply: u128) -> Result<(), OutOfMemory>
+        requires { HasNumber self.old }
         ensures { OnOk result (mail_of self.new ≡ sent i
             (record { number = self.old.made + 1; value = value; reply = reply })
             (record (mail_of self.old) { made = self.old.made + 1 })) }
     {
-        let number = self.made.checked_add(1).ok_or(OutOfMemory)?;
+        let number = self.made + 1;
         self.made = number;
         self.send(
             i,
@@ -367,6 +370,7 @@ impl Mailboxes {
 
     // A call is answered.
     fn answered(&mut self, call: &Call, answer: &Answer) -> Result<(), OutOfMemory>
+        requires { HasNumber self.old }
         ensures { OnOk result ((t : Tid) → mail_of self.new
             ≡ mail_after (mail_of self.old) (Mark.Answered t call.now answer.now)) }
     {
@@ -404,6 +408,7 @@ impl Mailboxes {
 
     // An act is made.
     fn acted(&mut self, act: &Act, answer: &Answer) -> Result<(), OutOfMemory>
+        requires { HasNumber self.old }
         ensures { OnOk result ((t : Tid) → mail_of self.new
             ≡ mail_after (mail_of self.old) (Mark.Acted t act.now answer.now)) }
     {
@@ -415,6 +420,7 @@ impl Mailboxes {
 
     // One more mark.
     fn follow(&mut self, mark: &Mark) -> Result<(), OutOfMemory>
+        requires { HasNumber self.old }
         ensures { OnOk result (mail_of self.new ≡ mail_after (mail_of self.old) mark.now) }
     {
         match mark {
@@ -433,10 +439,15 @@ impl Mailboxes {
     }
 
     /// These are the marks so far, and this one is the next.
-    pub(crate) fn add(&mut self, mark: &Mark) -> Result<(), OutOfMemory>
-        ensures { OnOk result ((marks : List MarkOf) → FollowsMail self.old marks
+    pub(crate) fn add(&mut self, mark: &Mark) -> Result<(), AuditErr>
+        ensures follows { OnOk result ((marks : List MarkOf) → FollowsMail self.old marks
             → FollowsMail self.new (marks ++ mark.now ∷ [])) }
+        ensures overflow { IsErrOf result AuditErr.Overflow → (marks : List MarkOf) → FollowsMail self.old marks
+            → 2 ^ 64 ≤ length marks + 1 }
     {
-        self.follow(mark)
+        if self.made == u64::MAX {
+            return Err(AuditErr::Overflow);
+        }
+        Ok(self.follow(mark)?)
     }
 }

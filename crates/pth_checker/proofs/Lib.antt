@@ -2,5 +2,6 @@ pub mod Rising
 pub mod Alive
 pub mod Parsed
 pub mod Heard
+pub mod Judging
 pub mod Opened
 pub mod ReadWell

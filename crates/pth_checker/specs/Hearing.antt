@@ -1,5 +1,6 @@
 -- What was read and judged of a text.
 use Rattle.std.specs.Prelude.{◌≡◌, ◌+◌, ◌<◌, ◌^◌, ℕ, Bool, true, List, [], ◌++◌, Option, Some, None, Result, Ok, Err, length}
+use Rattle.pth_base.specs.declared.mark.Mark.{Mark}
 use Rattle.pth_checker.specs.Judged.{HoldsUpTo, HoldsVerdict}
 use Rattle.pth_checker.specs.Judging.{Judges}
 use Rattle.pth_checker.specs.declared.hearing.Hearing.{Hearing}
@@ -30,6 +31,12 @@ pub record HasHeard (content : Option (List ℕ)) (h : Hearing) (left : Option (
   pub counted : h.reader.lines ≡ length told
   pub judges : Judges h.judge (marks_of told)
 
+-- the marks of all lines that were read were judged, but for so many lines
+pub record HasJudged (h : Hearing) (unjudged : ℕ) : Type 0 where
+  pub marks : List Mark
+  pub judges : Judges h.judge marks
+  pub counted : h.reader.lines ≡ length marks + unjudged
+
 -- one line more was read, and is not judged yet
 pub record HasRead (content : Option (List ℕ)) (h : Hearing) (left : Option (List ℕ)) (told : List Told) (part : Part) : Type 0 where
   pub taken : Takes (ahead [] content) (ahead h.reader.unread left) (told_lines told ++ part_line part)
@@ -44,6 +51,7 @@ pub record Steps (before after : Hearing) (is_started : Bool) : Type 0 where
   pub started : IsStarted after.reader.of_file is_started
   pub lines : after.reader.lines ≡ before.reader.lines + 1
   pub few : after.reader.lines < 2 ^ 64
+  pub judged : HasJudged after 0
 
 -- ---- in the end
 

@@ -1,5 +1,5 @@
 -- What a judge follows, and what it says of one mark more.
-use Rattle.std.specs.Prelude.{List, [], ◌∷◌, ◌++◌, Option, Some, None}
+use Rattle.std.specs.Prelude.{◌+◌, ◌<◌, ◌^◌, List, [], ◌∷◌, ◌++◌, length, Option, Some, None}
 use Rattle.pth_base.specs.declared.mark.Mark.{Mark}
 use Rattle.pth_audit.specs.Auditing.{Follows}
 use Rattle.pth_audit.specs.Verdicts.{BreaksFirst}
@@ -11,6 +11,12 @@ use Rattle.pth_checker.specs.declared.judge.Judge.{Judge}
 pub record Judges (j : Judge) (marks : List Mark) : Type 0 where
   pub laws : Follows j.auditor marks
   pub living : FollowsLiving j.living marks
+
+-- a judge follows fewer than 2^64 - 1 marks, so the auditor's counts have room for one mark more
+pub record HasRoom (j : Judge) : Type 0 where
+  pub marks : List Mark
+  pub judges : Judges j marks
+  pub few : length marks + 1 < 2 ^ 64
 
 -- with one mark more the judge follows the marks, or they break a law
 abbrev pub IsJudged : Option AuditRule → Judge → List Mark → Mark → Type 0

@@ -1,7 +1,7 @@
 //! A transcript that is read and judged line by line.
 
-ghost use Rattle.std.specs.Prelude.{◌≡◌, ◌⊎◌, ◌<◌, ◌^◌, ℕ, List, [], Option, IfErr, IfOk, OnOk, false};
-ghost use Rattle.pth_checker.specs.Hearing.{ComesTo, GoesOn, HasHeard, HasRead, IsWhole, Steps};
+ghost use Rattle.std.specs.Prelude.{◌≡◌, ◌⊎◌, ◌<◌, ◌^◌, ℕ, List, [], Option, IfErr, IfOk, OnOk, None, false};
+ghost use Rattle.pth_checker.specs.Hearing.{ComesTo, GoesOn, HasHeard, HasJudged, HasRead, IsWhole, Steps};
 ghost use Rattle.pth_checker.specs.Words.{name_of};
 ghost use Rattle.pth_transcript.specs.Reading.{CountsFault};
 ghost use Rattle.pth_transcript.specs.Taking.{IsStarted, OtherStays, is_file, of_read};
@@ -52,6 +52,8 @@ impl Hearing {
 
     // Judges the mark of the line that was read last.
     fn judge_mark(&mut self, told: Told) -> Result<Option<Verdict>, Fault>
+        requires { HasJudged self.old 1 }
+        ensures judged { IfOk result (λ verdict. verdict ≡ None → HasJudged self.new 0) }
         ensures reader { self.new.reader ≡ self.old.reader }
         ensures few { self.new.reader.lines < 2 ^ 64 }
         ensures fault { IfErr result (λ f. f ≡ Fault.OutOfMemory) }
@@ -108,7 +110,8 @@ impl Hearing {
         input: &mut S,
         files: &mut F,
     ) -> Result<Option<Verdict>, Fault>
-        requires { IsStarted self.old.reader.of_file (F.started files.old) }
+        requires started { IsStarted self.old.reader.of_file (F.started files.old) }
+        requires judged { HasJudged self.old 0 }
         ensures goes_on { (content : Option (List ℕ)) → (told : List ToldOf)
             → HasHeard content self.old (of_read self.old.reader.of_file (S.left input.old) (F.left files.old)) told
             → GoesOn content self.new (of_read self.old.reader.of_file (S.left input.new) (F.left files.new)) result }
@@ -130,7 +133,8 @@ impl Hearing {
         input: &mut S,
         files: &mut F,
     ) -> Result<Verdict, Fault>
-        requires { IsStarted self.old.reader.of_file (F.started files.old) }
+        requires started { IsStarted self.old.reader.of_file (F.started files.old) }
+        requires judged { HasJudged self.old 0 }
         ensures comes_to { (content : Option (List ℕ)) → (told : List ToldOf)
             → HasHeard content self.old (of_read self.old.reader.of_file (S.left input.old) (F.left files.old)) told
             → ComesTo content result }

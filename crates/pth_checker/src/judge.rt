@@ -3,10 +3,11 @@
 ghost use Rattle.std.specs.Prelude.{◌↔◌, [], IfOk, IsTrue, List};
 ghost use Rattle.pth_base.specs.declared.mark.Mark.{Mark as MarkOf};
 ghost use Rattle.pth_checker.specs.Fitting.{FitsEnding};
-ghost use Rattle.pth_checker.specs.Judging.{IsJudged, Judges};
+ghost use Rattle.pth_checker.specs.Judging.{HasRoom, IsJudged, Judges};
 
 use crate::living::Living;
 use pth_audit::auditor::Auditor;
+use pth_audit::error::AuditErr;
 use pth_audit::verdict::AuditRule;
 use pth_base::mark::Mark;
 use pth_base::memory::OutOfMemory;
@@ -32,17 +33,20 @@ impl Judge {
         })
     }
 
-    /// Follows one mark more, if the marks are lawful with it. Else it answers the first of the laws that they break, and may only be
-    /// dropped; and so after an error.
+    /// Follows one mark more, if the marks are lawful with it. Otherwise it returns the first of the laws that they break. After that, and
+    /// after an error, it may only be dropped.
     pub(crate) fn add(&mut self, mark: Mark) -> Result<Option<AuditRule>, OutOfMemory>
+        requires { HasRoom self.old }
         ensures { IfOk result (λ rule. (marks : List MarkOf) → Judges self.old marks → IsJudged rule self.new marks mark) }
     {
-        match self.auditor.add(&mark)? {
-            Some(rule) => Ok(Some(rule)),
-            None => {
+        match self.auditor.add(&mark) {
+            Ok(Some(rule)) => Ok(Some(rule)),
+            Ok(None) => {
                 self.living.add(mark)?;
                 Ok(None)
             }
+            Err(AuditErr::OutOfMemory) => Err(OutOfMemory),
+            Err(AuditErr::Overflow) => unreachable!(),
         }
     }
 

@@ -20,7 +20,7 @@ pub struct Conds {
     conditions: [Option<Seats>; MOST_OBJECTS],
     // Whether one was initialised.
     any_live: bool,
-    // How many seats events have, at all conditions: each has fewer than 2^64, so that their sum fits.
+    // How many seats events have, at all conditions. Each condition has fewer than 2^64, so their sum fits.
     event_seats: u128,
 }
 

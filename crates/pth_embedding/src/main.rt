@@ -128,7 +128,11 @@ fn print_world(rt: &(impl Print + AllocGlobal), world: &World<Errand>) -> io::Re
 }
 
 /// Prints how often another thread was dispatched since a thread became ready, and how often that may be; nothing if it is not ready.
-fn print_wait(rt: &(impl Print + AllocGlobal), machine: &Machine<Errand>, t: Tid) -> io::Result<()> {
+fn print_wait(
+    rt: &(impl Print + AllocGlobal),
+    machine: &Machine<Errand>,
+    t: Tid,
+) -> io::Result<()> {
     match (machine.waited(t), machine.allowed(t)) {
         (Some(waited), Some(allowed)) => {
             println!(rt; "  thread {}: waited {waited}, allowed {allowed}", t.0)

@@ -26,9 +26,6 @@ use pth_base::memory::OutOfMemory;
 use pth_base::program::Program;
 use pth_world::world::World;
 
-/// How many messages may be put in a run.
-const MOST_SENT: u64 = 1 << 62;
-
 /// `pth_key_setdata`, as a call and as an act: sets a thread's value under a key. ENOENT where the key is not live.
 pub fn set_key<P: Program>(w: &mut World<P>, t: Tid, k: i64, v: i64) -> Result<Answer, OutOfMemory>
     requires whole { WellFormed w.old }
@@ -76,10 +73,6 @@ pub fn put_message<P: Program>(
     ensures told { IfOk result (λ a. (t : Tid) → IsTold w.old w.new (Answered t (PortPut p v reply) a) a (λ (s : State P P.State P.Shared). (port_put s p reply).begin)) }
     ensures handled { OnOk result (IsHandled w.old w.new) }
 {
-    // Each step puts few messages, and so this is never met.
-    if w.ports().sent() >= MOST_SENT {
-        return Err(OutOfMemory);
-    }
     match w.ports_mut().put(p, v, reply) {
         Ok(_message) => Ok(Answer::Int(1)),
         Err(refusal) => refused(refusal),

@@ -23,3 +23,5 @@ mod plans;
 mod queues;
 #[cfg(test)]
 mod rings;
+#[cfg(test)]
+mod writes;

@@ -98,7 +98,9 @@ fn send_message(rt: &impl Abort, alloc: Global) -> Result<(), Refusal> {
     assert!(rt; put.0 == 1 && got.0 == 1 && value == 7);
     ports.reply(1, 8)?;
     assert!(rt; matches!(ports.pending(2), Ok(1)));
-    ports.destroy(2)
+    ports.destroy(2)?;
+    assert!(rt; ports.is_live(1) && !ports.is_live(2));
+    Ok(())
 }
 
 fn make_barrier(alloc: Global) -> Result<(), Refusal> {
@@ -138,17 +140,22 @@ fn make_threads(rt: &impl Abort, alloc: Global) -> Result<(), Fail> {
     Ok(())
 }
 
-/// Bytes that come at moment 0, and are read.
-fn read_bytes(rt: &impl Abort, alloc: Global) -> Result<(), OutOfMemory> {
+/// A kernel with descriptor 3, to which this comes at moment 0.
+pub fn kernel_with(rt: &impl Abort, alloc: Global, what: Entry) -> Result<Kernel, OutOfMemory> {
     let mut trace = Trace::new(alloc);
-    let what = Entry::Arrive(Bytes::from_slice(alloc, b"abc")?);
     trace.push(Stamp {
         at: 0,
         fd: Fd(3),
         what,
     })?;
     assert!(rt; trace.first_fault(FdSet(8)).is_none());
-    let mut kernel = Kernel::new(alloc, 1, FdSet(8), trace)?;
+    Kernel::new(alloc, 1, FdSet(8), trace)
+}
+
+/// Bytes that have come, and are read.
+fn read_bytes(rt: &impl Abort, alloc: Global) -> Result<(), OutOfMemory> {
+    let what = Entry::Arrive(Bytes::from_slice(alloc, b"abc")?);
+    let mut kernel = kernel_with(rt, alloc, what)?;
     let _attempt = try_read(&mut kernel, 3, 2)?;
     Ok(())
 }

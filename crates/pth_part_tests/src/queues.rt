@@ -3,7 +3,7 @@
 ghost use Rattle.std.specs.Prelude.{◌≡◌, ◌≤◌};
 
 use crate::comparison::same_text;
-use Turn::{Enter, First, Raise};
+use Turn::{Delete, Enter, First, Raise};
 use pth_base::ids::Slot;
 use pth_base::memory::OutOfMemory;
 use pth_queue::node::Node;
@@ -21,6 +21,7 @@ const TOP: u8 = 20;
 enum Turn {
     Enter(Queue, i64, u32),
     First(Queue),
+    Delete(u32),
     Raise(Queue),
 }
 
@@ -46,6 +47,12 @@ fn enter(
     Ok(())
 }
 
+/// Takes a slot out of the ready queue.
+fn delete(rt: &impl Abort, set: &mut QueueSet, slot: Slot) {
+    assert!(rt; set.queue_of(slot).is_some());
+    assert!(rt; matches!(set.delete(slot), Queue::Ready));
+}
+
 fn raise(rt: &impl Abort, set: &mut QueueSet, queue: Queue) {
     assert!(rt; set.favour_top(queue) < 100);
     set.increase(queue);
@@ -57,6 +64,7 @@ fn change(rt: &impl Abort, set: &mut QueueSet, turn: Turn) -> Result<(), OutOfMe
         Turn::First(queue) => {
             let _first = set.delmax(queue);
         }
+        Turn::Delete(slot) => delete(rt, set, Slot(slot)),
         Turn::Raise(queue) => raise(rt, set, queue),
     }
     Ok(())
@@ -122,7 +130,7 @@ fn tell_nodes(text: &mut String, set: &QueueSet) -> Result<(), AllocError> {
 }
 
 /// Changes of the ready queue, and how it stands after them.
-static ROWS: [(&[Turn], &str); 6] = [
+static ROWS: [(&[Turn], &str); 7] = [
     // gaps are distances of ranks
     (
         &[
@@ -150,6 +158,17 @@ static ROWS: [(&[Turn], &str); 6] = [
             Enter(Queue::Ready, 3, 0),
             Raise(Queue::Ready),
             First(Queue::Ready),
+        ],
+        "1 at 2 0, 2 at 2 1, to 2 below 3; -, 2 2 2, 1 1 0, ",
+    ),
+    // so it does where the head is deleted
+    (
+        &[
+            Enter(Queue::Ready, 3, 0),
+            Enter(Queue::Ready, 1, 1),
+            Enter(Queue::Ready, 1, 2),
+            Raise(Queue::Ready),
+            Delete(0),
         ],
         "1 at 2 0, 2 at 2 1, to 2 below 3; -, 2 2 2, 1 1 0, ",
     ),

@@ -53,12 +53,12 @@ module _ {P S H : Type 0} (f : P → Functions S H) (g : Given P) (halts : ℕ �
   broken_keeps memory stop =
       let cut = stop.cut in
       let begins : (before ++ new) ++ cut.rest ≡ (run f g (stop.part + 1)).marks =
-          ap (λ (x : List Mark). (before ++ x) ++ cut.rest) cut.new_is
-          ∙ regrouped before old stop.told cut.first cut.rest
-          ∙ ap (λ (x : List Mark). x ++ stop.told ++ (cut.first ++ cut.rest)) so_far
-          ∙ ap (λ (x : List Mark). x ++ (cut.first ++ cut.rest)) (sym stop.between)
-          ∙ ap (λ (x : List Mark). (run f g stop.part).marks ++ x) cut.whole_is
-          ∙ sym stop.within in
+      ap (λ (x : List Mark). (before ++ x) ++ cut.rest) cut.new_is
+      ∙ regrouped before old stop.told cut.first cut.rest
+      ∙ ap (λ (x : List Mark). x ++ stop.told ++ (cut.first ++ cut.rest)) so_far
+      ∙ ap (λ (x : List Mark). x ++ (cut.first ++ cut.rest)) (sym stop.between)
+      ∙ ap (λ (x : List Mark). (run f g stop.part).marks ++ x) cut.whole_is
+      ∙ sym stop.within in
       record {
         laws = beginning_meets_laws (before ++ new) cut.rest (subst MeetsMarkLaws (sym begins) (run_meets_laws f g (stop.part + 1)).marks);
         part = stop.part + 1;

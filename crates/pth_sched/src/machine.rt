@@ -10,7 +10,7 @@ ghost use Rattle.pth_queue.specs.declared.queue.Queue.TheVariants as queue;
 ghost use Rattle.pth_model.specs.State.{Given, allowance_of, now_of, wait_of};
 ghost use Rattle.pth_model.specs.Living.{live as live_threads};
 ghost use Rattle.pth_model.specs.Part.{moves};
-ghost use Rattle.pth_model.specs.Pass.{moment, pass};
+ghost use Rattle.pth_model.specs.Pass.{moment, pass, to_wake};
 ghost use Rattle.pth_model.specs.Run.{run};
 ghost use Rattle.pth_model.specs.Standing.{Standing};
 ghost use Rattle.pth_threads.specs.Threads.{number_of};
@@ -144,7 +144,8 @@ impl<P: Program> Machine<P> {
     }
 
     /// One pass over the waiting threads while nobody runs, as the end of a turn and a move of idle time make it: those whose
-    /// calls have what they wait for are ready. pth(3) has no call for it. After an error the machine may only be dropped.
+    /// calls have what they wait for are ready. It wants memory only if there is one. pth(3) has no call for it. After an error
+    /// the machine may only be dropped.
     pub fn pass(&mut self, marks: &mut Marks) -> Result<(), OutOfMemory>
         requires nobody { self.old.world.scheduler.running ≡ None }
         requires goes { self.old.turn.outcome ≡ Outcome.Running }
@@ -152,6 +153,7 @@ impl<P: Program> Machine<P> {
             → Makes self.new marks.old marks.new (within c.turn (pass P.functions c.state))) }
         ensures err { OnErr result ((c : Course P P.State P.Shared) → Stands self.old c
             → IsCut marks.old marks.new (pass P.functions c.state).marks) }
+        ensures wanted { OnErr result ((c : Course P P.State P.Shared) → Stands self.old c → to_wake P.functions c.state ≢ []) }
         ensures turn { OnOk result (self.new.turn ≡ self.old.turn) }
         ensures scheduler { OnOk result (self.new.world.scheduler ≡ self.old.world.scheduler) }
         ensures kernel { OnOk result (self.new.world.kernel ≡ self.old.world.kernel) }

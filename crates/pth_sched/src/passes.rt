@@ -1,9 +1,9 @@
 //! Passes over the waiting threads.
 
-ghost use Rattle.std.specs.Prelude.{◌≡◌, ◌≢◌, ◌<◌, ℕ, true, false, pos, neg_ℤ, ◌+ℤ◌, ◌≤ℤ◌, map, Some, OnOk};
+ghost use Rattle.std.specs.Prelude.{◌≡◌, ◌≢◌, ◌<◌, ℕ, true, false, pos, neg_ℤ, ◌+ℤ◌, ◌≤ℤ◌, [], length, map, Some, OnOk, OnErr};
 ghost use Rattle.pth_threads.specs.Threads.{number_of};
 ghost use Rattle.pth_model.specs.Changes.{entry_of, prio_of};
-ghost use Rattle.pth_model.specs.Pass.{pass, woken, all_woken};
+ghost use Rattle.pth_model.specs.Pass.{pass, to_wake, woken, all_woken};
 ghost use Rattle.pth_model.specs.State.{Control, State, now_of};
 ghost use Rattle.pth_world.specs.Leading.{LedTo};
 ghost use Rattle.pth_world.specs.Ranks.{greatest_return};
@@ -64,6 +64,7 @@ fn wake_all<P: Program>(
     requires wait { WaitOnce w.old (map number_of list.now) }
     ensures goes { LedTo (StandsFor w.old) (all_woken (map number_of list.now)) w.new marks.old marks.new result }
     ensures only_wakes { OnOk result (OnlyWakes w.old w.new) }
+    ensures wanted { OnErr result (0 < length list.now) }
 {
     for t in list {
         wake(w, *t, marks)?;
@@ -72,7 +73,7 @@ fn wake_all<P: Program>(
 }
 
 /// A pass over the waiting threads: the events for which they wait are looked at, and which threads wake is told by the state as it
-/// begins. `room` is where they are kept meanwhile.
+/// begins. `room` is where they are kept meanwhile. Memory is wanted only if a thread wakes.
 pub fn pass<P: Program>(
     w: &mut World<P>,
     room: &mut PassRoom,
@@ -82,6 +83,7 @@ pub fn pass<P: Program>(
     ensures goes { LedTo (StandsFor w.old) (pass P.functions) w.new marks.old marks.new result }
     ensures only_wakes { OnOk result (OnlyWakes w.old w.new) }
     ensures keeps { OnOk result (Whole w.old → Whole w.new) }
+    ensures wanted { OnErr result ((s : State P P.State P.Shared) → StandsFor w.old s → to_wake P.functions s ≢ []) }
 {
     room.go_over(w);
     wake_all(w, room.waking(), marks)

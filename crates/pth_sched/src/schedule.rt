@@ -7,7 +7,7 @@ ghost use Rattle.pth_kernel.specs.Kernel.{kernel_of};
 ghost use Rattle.pth_model.specs.Changes.{goes_on};
 ghost use Rattle.pth_model.specs.Course.{Course, HasHistory, within};
 ghost use Rattle.pth_model.specs.Part.{is_idle, owes_after, turn_after, moves, moves_by, takes, steps, closes, part};
-ghost use Rattle.pth_model.specs.Pass.{moment, pass};
+ghost use Rattle.pth_model.specs.Pass.{moment, pass, to_wake};
 ghost use Rattle.pth_model.specs.Run.{stops as run_stops};
 ghost use Rattle.pth_model.specs.State.{Control, Given};
 ghost use Rattle.pth_world.specs.Frame.{runs_after};
@@ -248,6 +248,7 @@ impl<P: Program> Schedule<P> {
             → Makes self.new marks.old marks.new (within c.turn (pass P.functions c.state))) }
         ensures err { OnErr result ((c : Course P P.State P.Shared) → Stands self.old c
             → IsCut marks.old marks.new (pass P.functions c.state).marks) }
+        ensures wanted { OnErr result ((c : Course P P.State P.Shared) → Stands self.old c → to_wake P.functions c.state ≢ []) }
         ensures keeps { OnOk result (Keeps self.new) }
         ensures whole { OnOk result (Whole self.old.world → Whole self.new.world) }
         ensures turn { self.new.turn ≡ self.old.turn }

@@ -1,9 +1,11 @@
 pub mod Differences
 pub mod Dumped
+pub mod FewThreads
 pub mod Finding
 pub mod Leading
 pub mod Loading
 pub mod Named
 pub mod Parts
 pub mod Rows
+pub mod Sizes
 pub mod Threads

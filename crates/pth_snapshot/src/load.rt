@@ -108,7 +108,7 @@ fn bring<P: Program>(
         return Ok(line);
     }
     let text = saved(alloc, machine)?;
-    first_difference(snap, text.as_slice())
+    Ok(first_difference(snap, text.as_slice()))
 }
 
 /// Takes up the run of an input, a script with its kernel as `read` takes it, where a snapshot says that it stands.

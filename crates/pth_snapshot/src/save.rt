@@ -1,6 +1,6 @@
 //! A run as a text.
 
-ghost use Rattle.std.specs.Prelude.{◌≡◌, ◌++◌, IfOk};
+ghost use Rattle.std.specs.Prelude.{◌≡◌, ◌+◌, ◌<◌, ◌^◌, ◌++◌, length, IfOk};
 ghost use Rattle.pth_line.specs.Script.{Sections};
 ghost use Rattle.pth_line.specs.declared.cells.Cells.{Cells};
 ghost use Rattle.pth_line.specs.declared.frame.Frame.{Frame};
@@ -24,7 +24,8 @@ use std::alloc::Global;
 // Adds the whole text.
 fn add_dump<P: Program>(m: &Machine<P>, alloc: Global, out: &mut Text) -> Result<(), OutOfMemory>
     requires { m.now.turn.outcome ≡ Outcome.Running }
-    ensures { IfOk result (λ _. (c : Course P P.State P.Shared) → Stands m.now c → out.new ≡ out.old ++ dump c) }
+    ensures dumped { IfOk result (λ _. (c : Course P P.State P.Shared) → Stands m.now c → out.new ≡ out.old ++ dump c) }
+    ensures few { IfOk result (λ _. length out.new < length out.old + 2 ^ 22) }
 {
     add_place(m, out)?;
     add_single(m, out)?;
@@ -35,10 +36,11 @@ fn add_dump<P: Program>(m: &Machine<P>, alloc: Global, out: &mut Text) -> Result
     out.push(b"end\n")
 }
 
-/// The text of where a machine stands, with what stands there.
+/// The text of where a machine stands, with what stands there. It has fewer than 2^22 bytes.
 pub fn saved<P: Program>(alloc: Global, m: &Machine<P>) -> Result<Text, OutOfMemory>
     requires { m.now.turn.outcome ≡ Outcome.Running }
-    ensures { IfOk result (λ text. (c : Course P P.State P.Shared) → Stands m.now c → text ≡ dump c) }
+    ensures dumped { IfOk result (λ text. (c : Course P P.State P.Shared) → Stands m.now c → text ≡ dump c) }
+    ensures few { IfOk result (λ text. length text < 2 ^ 22) }
 {
     let mut text = Text::new(alloc);
     match add_dump(m, alloc, &mut text) {

@@ -1,6 +1,7 @@
 //! The lines of threads.
 
-ghost use Rattle.std.specs.Prelude.{◌≡◌, ◌++◌, IfOk, Some, pos};
+ghost use Rattle.std.specs.Prelude.{◌≡◌, ◌≤◌, ◌+◌, ◌*◌, ◌++◌, length, IfOk, Some, pos};
+ghost use Rattle.pth_base.specs.Limits.{thread_limit};
 ghost use Rattle.pth_threads.specs.Attributes.{state_number};
 ghost use Rattle.pth_model.specs.State.{State};
 ghost use Rattle.pth_world.specs.Placed.{place};
@@ -84,7 +85,8 @@ fn add_entry(
     place: Option<(Queue, i64, u32)>,
     out: &mut Text,
 ) -> Result<(), OutOfMemory>
-    ensures { IfOk result (λ _. out.new ≡ out.old ++ thread_row entry.now.tid.0 (Some entry.now) place) }
+    ensures row { IfOk result (λ _. out.new ≡ out.old ++ thread_row entry.now.tid.0 (Some entry.now) place) }
+    ensures short { IfOk result (λ _. length entry.now.name ≤ 40) }
 {
     let (rank, before) = stand(place);
     out.push(b"thread")?;
@@ -97,8 +99,9 @@ fn add_entry(
 // Adds the line of a thread, if it is in the system.
 fn add_thread<P: Program>(w: &World<P>, t: Tid, out: &mut Text) -> Result<(), OutOfMemory>
     requires { IsSound w.now.threads }
-    ensures { IfOk result (λ _. (s : State P P.State P.Shared) → StandsFor w.now s
+    ensures row { IfOk result (λ _. (s : State P P.State P.Shared) → StandsFor w.now s
         → out.new ≡ out.old ++ thread_row t.0 (s.control.threads.known t.0) (place s.control t.0)) }
+    ensures few { IfOk result (λ _. length out.new ≤ length out.old + 800) }
 {
     match w.entry(t) {
         Some(entry) => add_entry(entry, w.place(t), out),
@@ -106,15 +109,16 @@ fn add_thread<P: Program>(w: &World<P>, t: Tid, out: &mut Text) -> Result<(), Ou
     }
 }
 
-/// Adds the lines of the threads in the system.
+/// Adds the lines of the threads in the system: at most 4,096, of at most 800 bytes each.
 pub fn add_threads<P: Program>(
     w: &World<P>,
     alloc: Global,
     out: &mut Text,
 ) -> Result<(), OutOfMemory>
     requires { IsSound w.now.threads }
-    ensures { IfOk result (λ _. (s : State P P.State P.Shared) → StandsFor w.now s
+    ensures rows { IfOk result (λ _. (s : State P P.State P.Shared) → StandsFor w.now s
         → out.new ≡ out.old ++ thread_rows s.control) }
+    ensures few { IfOk result (λ _. length out.new ≤ length out.old + 800 * thread_limit) }
 {
     let tids = w.threads().tids(alloc)?;
     for t in &tids {

@@ -1,5 +1,6 @@
-use Rattle.std.proofs.Common.{[], subst, sym}
+use Rattle.std.proofs.Common.{[], None, subst, sym}
 use Rattle.pth_checker.proofs.Heard.{err_is}
+use Rattle.pth_checker.proofs.Judging.{judged_none}
 use Rattle.pth_checker.proofs.Opened.{heard_whole}
 use Rattle.pth_checker.specs.Words.{name_of}
 use Rattle.pth_streams.specs.Inputs.{inputs}
@@ -19,3 +20,6 @@ returns-clause-comes_to g c =
     let content = content_under name ins in
     c.judge.ensures.comes_to content [] (heard_whole name ins c.in_ok-hearing.hearing (g.F.Files.left c.open.new.files)
     c.in_ok-hearing.ensures.whole c.in_ok-hearing.ensures.of_file (c.in_ok-hearing.ensures.heard content))
+
+pub judge-requires-clause-judged : goal.judge-requires-clause-judged
+judge-requires-clause-judged g c = judged_none c.in_ok-hearing.hearing (c.in_ok-hearing.ensures.heard None)

@@ -13,5 +13,5 @@ returns-in_err-end_line g c = λ s stands. cut_before _ _ _ c.from_residual-in_e
 
 pub returns : goal.returns
 returns g c = λ s stands.
-    let is = ending_is (asked_of c.args.choice.now) c.args.machine.now s c.args.outcome _ _ _ _ _ _ stands c.requires.outcome c.deref.ensures.value c.in_ok-live.ensures c.clear.ensures c.in_ok-add_counts.ensures c.in_ok-end_line.ensures.ok c.as_slice.ensures in
+    let is = ending_is (asked_of c.args.choice.now) c.args.machine.now s c.args.outcome _ _ _ _ _ _ stands c.requires.outcome c.deref.ensures.value c.in_ok-live.ensures.live c.clear.ensures c.in_ok-add_counts.ensures c.in_ok-end_line.ensures.ok c.as_slice.ensures in
     piece_of _ _ _ _ _ c.write_all.result is c.write_all.ensures.whole c.write_all.ensures.part c.write_all.ensures.counts

@@ -1,5 +1,7 @@
-use Rattle.std.proofs.Common.{◌∙◌, ap, sym, subst}
+use Rattle.std.proofs.Common.{◌∙◌, length, ap, sym, subst, arith}
+use Rattle.std.proofs.lemmas.List.{length-map}
 use Rattle.std.proofs.lemmas.Result.{on_ok_weaker, on_err_weaker}
+use Rattle.pth_threads.specs.Threads.{number_of}
 use Rattle.pth_world.specs.WellFormed.{WellFormed}
 use Rattle.pth_world.specs.World.{WorldOf}
 use Rattle.pth_world.specs.StateOf.{state_of}
@@ -28,6 +30,12 @@ returns-clause-goes g c =
       leads = on_ok_weaker c.wake_all.result (λ leads s st. pass_leads g.P.Program.functions c.args.w.now c.go_over.new.w s st _ _ _ (c.waking.ensures ∙ c.go_over.ensures.listed s st) (c.go_over.ensures.shows s st) (ap (λ w. w.store) c.go_over.ensures.same) c.wake_all.new.w leads) c.wake_all.ensures.goes.leads;
       cut = on_err_weaker c.wake_all.result (λ cut s st. pass_cut g.P.Program.functions c.args.w.now c.go_over.new.w s st _ _ _ (c.waking.ensures ∙ c.go_over.ensures.listed s st) (c.go_over.ensures.shows s st) (ap (λ w. w.store) c.go_over.ensures.same) cut) c.wake_all.ensures.goes.cut;
     }
+
+pub returns-clause-wanted : goal.returns-clause-wanted
+returns-clause-wanted g c =
+    on_err_weaker c.wake_all.result (λ some s st none.
+    let listed = ap length (c.waking.ensures ∙ c.go_over.ensures.listed s st ∙ none) in
+    omega (arith, some, listed, length-map c.waking.result.now number_of)) c.wake_all.ensures.wanted
 
 pub returns-clause-only_wakes : goal.returns-clause-only_wakes
 returns-clause-only_wakes g c = on_ok_weaker c.wake_all.result (wakes_then _ _ _ (wakes_seen _ _ c.requires.whole c.go_over.ensures.made c.go_over.ensures.same)) c.wake_all.ensures.only_wakes

@@ -31,6 +31,11 @@ returns-in_err-wake-clause-goes g c =
           wakes_cut c.loop-t.w _ _ _ c.loop-t.marks _ _ now c.in_err-wake.ensures.goes.cut;
     })
 
+pub returns-in_err-wake-clause-wanted : goal.returns-in_err-wake-clause-wanted
+returns-in_err-wake-clause-wanted g c =
+    let p = err_from_is_err_and c.from_residual.result c.from_residual.ensures.1 in
+    rw p.1 (omega arith)
+
 pub loop-t-preserved : goal.loop-t-preserved
 loop-t-preserved g c =
     let split = drop_more c.args.list.now c.loop-t.t-index (record { 0 = 0 }) c.loop-t-test.true in

@@ -54,7 +54,7 @@ returns-in_default-call g c =
     let other : is_await b.call ≡ false = unawaited b.call c.in_default-call.not-CondAwait in
     let last = λ (s : State _ _ _). gone_on_where f t (may_be_canceled s.control t) s in
     let goes = goes_as (StandsRightly w t) (StandsRightly w t) last (gone_on f t) _ _ _ _
-        (λ s st. (s, st, sym (ap (λ o. gone_on_by f t o s) (has s st.0) ∙ by_other f t b.call b.awaits other s))) c.resume_call.ensures.goes in
+    (λ s st. (s, st, sym (ap (λ o. gone_on_by f t o s) (has s st.0) ∙ by_other f t b.call b.awaits other s))) c.resume_call.ensures.goes in
     record {
       goes = goes;
       frame = c.resume_call.ensures.frame;

@@ -24,6 +24,7 @@ loop-verdict-preserved g c = record {
       (c.in_ok-verdict.ensures.goes_on content more.0 (heard_of_same content _ _ c.loop-verdict.self more.0 _ _ c.loop-verdict.invariant.of_file more.1)) in
       (next.0, heard_of_same content _ _ c.step.new.self next.0 _ _ (sym c.loop-verdict.invariant.of_file) next.1);
   of_file = (c.in_ok-verdict.ensures.steps c.in_default.is).of_file ∙ c.loop-verdict.invariant.of_file;
+  judged = (c.in_ok-verdict.ensures.steps c.in_default.is).judged;
   started = (c.in_ok-verdict.ensures.steps c.in_default.is).started;
   stood = stood_then _ _ _ _ _ _ _ c.loop-verdict.invariant.of_file c.loop-verdict.invariant.stood c.in_ok-verdict.ensures.counts;
   other = other_then _ _ _ _ _ _ _ _ c.loop-verdict.invariant.of_file c.loop-verdict.invariant.other c.in_ok-verdict.ensures.other;

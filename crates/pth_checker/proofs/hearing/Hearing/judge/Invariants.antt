@@ -1,5 +1,5 @@
 use Rattle.std.proofs.Common.{◌≡◌, ◌-◌, ◌^◌, ℕ, List, Option}
-use Rattle.pth_checker.specs.Hearing.{HasHeard}
+use Rattle.pth_checker.specs.Hearing.{HasHeard, HasJudged}
 use Rattle.pth_transcript.specs.Taking.{IsStarted, OtherStays, of_read}
 use Rattle.pth_transcript.specs.declared.told.Told.{Told}
 use Rattle.pth_checker.proofs.hearing.Hearing.judge.Given as goal
@@ -11,6 +11,7 @@ invariant-loop-verdict g l = record {
       → (more : List Told)
       × HasHeard content l.self (of_read l.initial.self.reader.of_file (g.S.Source.left l.input) (g.F.Files.left l.files)) more;
   of_file : l.self.reader.of_file ≡ l.initial.self.reader.of_file;
+  judged : HasJudged l.self 0;
   started : IsStarted l.self.reader.of_file (g.F.Files.started l.files);
   stood : of_read l.initial.self.reader.of_file (g.S.Source.faults l.input) (g.F.Files.faults l.files)
       ≡ of_read l.initial.self.reader.of_file (g.S.Source.faults l.initial.input) (g.F.Files.faults l.initial.files);

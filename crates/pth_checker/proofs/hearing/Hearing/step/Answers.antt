@@ -1,5 +1,6 @@
 use Rattle.std.proofs.Common.{refl}
 use Rattle.pth_checker.proofs.Heard.{goes_wrong, not_read, read_as, read_of_same}
+use Rattle.pth_checker.proofs.Judging.{judged_read}
 use Rattle.pth_transcript.specs.Taking.{of_read}
 use Rattle.pth_transcript.specs.declared.reader.Part.TheVariants as part
 use Rattle.pth_checker.proofs.hearing.Hearing.step.Goals as goal
@@ -37,3 +38,6 @@ returns-in_ok-judge_ending-in-Ending-clause-goes_on g c = λ content told heard.
     let files = g.F.Files.left c.next.new.files in
     c.in_ok-judge_ending-in-Ending.ensures.comes_to content told (read_of_same content input files _ told (part.Ending c.in-Ending.ending) file c.next.new.self.of_file c.in_ok-told.ensures.same
     (read_as content before (of_read file input files) c.args.self.now _ told c.in_ok-told.field-0 (part.Ending c.in-Ending.ending) c.in-Ending.is heard c.in_ok-told.ensures.takes c.in_ok-told.ensures.lines refl c.in_ok-told.ensures.plain))
+
+pub judge_mark-requires : goal.judge_mark-requires
+judge_mark-requires g c = judged_read c.args.self.now _ c.requires.judged refl c.in_ok-told.ensures.lines

@@ -1,4 +1,4 @@
-use Rattle.std.proofs.Common.{◌≡◌, Bool, true, false, None, Result, Ok, Err, IfOk, if◌then◌else◌, refl, sym, subst, rules}
+use Rattle.std.proofs.Common.{◌≡◌, ◌∙◌, Bool, true, false, None, Result, Ok, Err, IfOk, if◌then◌else◌, ap, refl, sym, subst, rules}
 use Rattle.std.specs.Result.{is_err}
 use Rattle.pth_base.specs.declared.outcome.Outcome.{Outcome}
 use Rattle.pth_base.specs.declared.outcome.Outcome.TheVariants.{OutOfMemory, Running}
@@ -41,3 +41,12 @@ returns-clause-follows g c =
 
 pub returns-clause-whole : goal.returns-clause-whole
 returns-clause-whole g c = subst (λ (m : MachineOf _ _ _). OnOk c.idle-moved.result (Whole m.world → Whole c.idle-moved.new.self.world)) c.self.view_is c.idle-moved.ensures.whole
+
+pub returns-clause-stays : goal.returns-clause-stays
+returns-clause-stays g c =
+    let inside = c.self.inside.schedule in
+    let new = c.idle-moved.new.self in
+    let goes = unfailed c.self.inside.failed inside.turn.outcome (subst (λ m. m.turn.outcome ≡ Running) (sym c.self.view_is) c.requires.goes) in
+    let shown = λ (failed : Bool). record inside { turn = record inside.turn { outcome = if failed then OutOfMemory else inside.turn.outcome } } in
+    let as_stays = λ (failed moved : Bool). moved ≡ false → (record new { turn = record new.turn { outcome = if failed then OutOfMemory else new.turn.outcome } } ≡ c.args.self.now) × (c.idle-moved.new.marks ≡ c.args.marks.now) in
+    rw c.is_err-self-inside.ensures.value (if_answered c.idle-moved.result _ as_stays (λ moved stays no. let same = stays no in (same.0 ∙ sym (ap shown goes) ∙ c.self.view_is, same.1)) c.idle-moved.ensures.stays)

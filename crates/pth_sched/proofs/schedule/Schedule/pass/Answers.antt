@@ -19,6 +19,12 @@ returns-clause-err g c =
     let inside = subst (λ m. Stands m x) (sym c.self.view_is) st in
     cut x.state inside.world) c.pass.ensures.goes.cut
 
+pub returns-clause-wanted : goal.returns-clause-wanted
+returns-clause-wanted g c =
+    on_err_weaker c.pass.result (λ some x st.
+    let inside = subst (λ m. Stands m x) (sym c.self.view_is) st in
+    some x.state inside.world) c.pass.ensures.wanted
+
 pub returns-clause-keeps : goal.returns-clause-keeps
 returns-clause-keeps g c =
     let before = subst (λ m. Keeps m) (sym c.self.view_is) c.requires.keeps in

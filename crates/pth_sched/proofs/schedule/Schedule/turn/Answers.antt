@@ -1,4 +1,4 @@
-use Rattle.std.proofs.Common.{◌≡◌, None, Some, sym, rules}
+use Rattle.std.proofs.Common.{◌≡◌, None, Some, sym, rules, arith}
 use Rattle.std.proofs.lemmas.Result.{err_from_is_err_and, on_ok_weaker, on_err_weaker}
 use Rattle.pth_sched.proofs.Following.{made_less}
 use Rattle.pth_sched.proofs.Keeping.{on_ok_three, stop_rests}
