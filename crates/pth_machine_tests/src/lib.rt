@@ -29,5 +29,3 @@ mod saved_runs;
 mod snapshots;
 #[cfg(test)]
 mod watch;
-#[cfg(test)]
-mod worlds;
