@@ -19,8 +19,8 @@ use Rattle.pth_audit.specs.Holds.{FollowsHolds, IsCountable, has_levels}
 use Rattle.pth_audit.specs.Mailboxes.{FollowsMail}
 use Rattle.pth_audit.specs.declared.error.AuditErr.{AuditErr}
 use Rattle.pth_audit.specs.declared.error.AuditErr.TheVariants.{OutOfMemory, Overflow}
-use Rattle.pth_audit.specs.declared.holds.Deed.{Deed}
-use Rattle.pth_audit.specs.declared.holds.Deed.TheVariants as deed
+use Rattle.pth_audit.specs.declared.holds.Effect.{Effect}
+use Rattle.pth_audit.specs.declared.holds.Effect.TheVariants as effect
 use Rattle.pth_audit.specs.declared.holds.Holds.{Holds}
 use Rattle.pth_audit.specs.declared.mailboxes.Mailboxes.{Mailboxes}
 
@@ -117,8 +117,8 @@ not_below a n few over = elim (cases_lt (a + 1) (2 ^ 64)) [
 ]
 
 -- so many levels take as many marks
-pub levels_overflow : (h : Holds) (marks : List Mark) → FollowsHolds h marks → (d : Deed) → (IsCountable h d → ⊥) → 2 ^ 64 ≤ length marks + 1
-levels_overflow h marks f (deed.Takes t i) over =
+pub levels_overflow : (h : Holds) (marks : List Mark) → FollowsHolds h marks → (d : Effect) → (IsCountable h d → ⊥) → 2 ^ 64 ≤ length marks + 1
+levels_overflow h marks f (effect.Takes t i) over =
     not_below (has_levels h t i) (length marks)
     (from_none (has_levels h t i) (levels t i marks) (length marks) (sym (f.levels t i)) (levels_along t i (record { had = 0; awaiting = false }) marks)) over
 levels_overflow h marks f d over = absurd (over tt)

@@ -9,7 +9,7 @@ use Rattle.std.proofs.lemmas.Bool.{true≢false}
 use Rattle.pth_base.proofs.Tables.{same_self, not_same, same_means, same_fails}
 use Rattle.pth_laws.specs.Marks.{is_same}
 use Rattle.pth_laws.proofs.Numbers.{same_number}
-use Rattle.pth_audit.specs.declared.holds.Deed.TheVariants as deed
+use Rattle.pth_audit.specs.declared.holds.Effect.TheVariants as effect
 use Rattle.pth_audit.specs.declared.holds.Holds.{Holds}
 use Rattle.pth_audit.specs.declared.holds.Owner.{Owner}
 use Rattle.pth_audit.specs.Holds.{levels_of, is_writer, has_levels, IsDone}
@@ -94,7 +94,7 @@ module _ (h : Holds) (x : BTreeMap ℤ Owner) (t : ℕ) (i : ℤ) (n : ℕ) wher
   level_given less some u k false b same own = refl
 
   pub given_back : n ≡ has_levels h t i - 1 → ((u : ℕ) (k : ℤ) → levels_of u (get int_cmp x k) ≡ (if is_same k i then (if t == u then n else 0) else has_levels h u k))
-      → 0 < has_levels h t i → IsDone h (record { awaiting = h.awaiting; owners = x; writers = h.writers; readers = h.readers }) (deed.Gives t i)
+      → 0 < has_levels h t i → IsDone h (record { awaiting = h.awaiting; owners = x; writers = h.writers; readers = h.readers }) (effect.Gives t i)
   given_back less set some = record {
     awaits = λ u. refl;
     levels = λ u k. set u k ∙ level_given less some u k (is_same k i) (t == u) refl refl;

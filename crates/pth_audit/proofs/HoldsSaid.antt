@@ -9,11 +9,11 @@ use Rattle.pth_base.proofs.Tables.{same_self, same_means}
 use Rattle.pth_laws.specs.Exclusive.{is_of, awaits, awaits_after, takes, gives, gives_up, enters, leaves, levels, writes, reads, held_after, Share, share_after, IsExclusiveAt}
 use Rattle.pth_laws.specs.Marks.{is_same, is_end_of}
 use Rattle.pth_laws.proofs.Numbers.{same_number}
-use Rattle.pth_audit.specs.declared.holds.Deed.{Deed}
-use Rattle.pth_audit.specs.declared.holds.Deed.TheVariants as deed
+use Rattle.pth_audit.specs.declared.holds.Effect.{Effect}
+use Rattle.pth_audit.specs.declared.holds.Effect.TheVariants as effect
 use Rattle.pth_audit.specs.declared.holds.Holds.{Holds}
-use Rattle.pth_audit.specs.Holds.{deed_of, step_of, takes_by, gives_by, gives_up_by, enters_by, leaves_by, ends_by, levels_by, held_by, awaits_by, has_awaited, has_levels, has_written, has_read, levels_of, is_writer, reads_under, FollowsHolds, IsFair, IsDone}
-use Rattle.pth_audit.proofs.HoldsDeeds.{takes_is, gives_is, gives_up_is, enters_is, leaves_is, ends_is, awaits_is}
+use Rattle.pth_audit.specs.Holds.{effect_of, step_of, takes_by, gives_by, gives_up_by, enters_by, leaves_by, ends_by, levels_by, held_by, awaits_by, has_awaited, has_levels, has_written, has_read, levels_of, is_writer, reads_under, FollowsHolds, IsFair, IsDone}
+use Rattle.pth_audit.proofs.HoldsEffects.{takes_is, gives_is, gives_up_is, enters_is, leaves_is, ends_is, awaits_is}
 
 same_int : (i : ℤ) → is_same i i ≡ true
 same_int (pos n) = same_self n
@@ -27,8 +27,8 @@ same_both : (P : ℕ → ℤ → Type 0) (t u : ℕ) (i k : ℤ) → is_of t i u
 same_both P t u i k h x = (let (same, is) = and_parts (is_same i k) (u == t) h in subst (λ (v : ℕ). P v i) (same_means u t is) (subst (λ (j : ℤ). P u j) (sym (same_number i k same)) x))
 
 module _ (h : Holds) where
-  -- the sentences of the law, of a deed
-  record Said (d : Deed) : Type 0 where
+  -- the sentences of the law, of an effect
+  record Said (d : Effect) : Type 0 where
     taker_is_alone : (t u : ℕ) (i : ℤ) → takes_by d t i ≡ true → u ≢ t → has_levels h u i ≡ 0
     giver_has_level : (t : ℕ) (i : ℤ) → gives_by d t i ≡ true → 0 < has_levels h t i
     given_up_was_had : (t : ℕ) (i : ℤ) → gives_up_by d t i ≡ true → 0 < has_levels h t i
@@ -38,20 +38,20 @@ module _ (h : Holds) where
     end_has_no_level : (t : ℕ) (i : ℤ) → ends_by d t ≡ true → has_levels h t i ≡ 0
     end_holds_no_lock : (t : ℕ) (l : ℤ) → ends_by d t ≡ true → (has_written h t l || has_read h t l) ≡ false
 
-  fair_if_said : (d : Deed) → Said d → IsFair h d
-  fair_if_said deed.Nothing s = tt
-  fair_if_said (deed.Takes t i) s = λ u apart. s.taker_is_alone t u i (own t i) apart
-  fair_if_said (deed.Gives t i) s = s.giver_has_level t i (own t i)
-  fair_if_said (deed.GivesUp t i) s = s.given_up_was_had t i (own t i)
-  fair_if_said (deed.Enters t l true) s = (λ u. s.meets_no_writer t u l true (own t l), λ u. s.writer_meets_no_reader t u l (own t l))
-  fair_if_said (deed.Enters t l false) s = λ u. s.meets_no_writer t u l false (own t l)
-  fair_if_said (deed.Leaves t l) s = s.leaver_holds t l (own t l)
-  fair_if_said (deed.Ends t) s = (λ i. s.end_has_no_level t i (same_self t), λ l. s.end_holds_no_lock t l (same_self t))
+  fair_if_said : (d : Effect) → Said d → IsFair h d
+  fair_if_said effect.Nothing s = tt
+  fair_if_said (effect.Takes t i) s = λ u apart. s.taker_is_alone t u i (own t i) apart
+  fair_if_said (effect.Gives t i) s = s.giver_has_level t i (own t i)
+  fair_if_said (effect.GivesUp t i) s = s.given_up_was_had t i (own t i)
+  fair_if_said (effect.Enters t l true) s = (λ u. s.meets_no_writer t u l true (own t l), λ u. s.writer_meets_no_reader t u l (own t l))
+  fair_if_said (effect.Enters t l false) s = λ u. s.meets_no_writer t u l false (own t l)
+  fair_if_said (effect.Leaves t l) s = s.leaver_holds t l (own t l)
+  fair_if_said (effect.Ends t) s = (λ i. s.end_has_no_level t i (same_self t), λ l. s.end_holds_no_lock t l (same_self t))
 
   none : {A : Type 0} → false ≡ true → A
   none e = absurd (true≢false (sym e))
 
-  said_if_fair : (d : Deed) → IsFair h d → Said d
+  said_if_fair : (d : Effect) → IsFair h d → Said d
   said_if_fair d fair = record {
     taker_is_alone = taker d fair;
     giver_has_level = giver d fair;
@@ -63,42 +63,42 @@ module _ (h : Holds) where
     end_holds_no_lock = end_lock d fair;
   }
     where
-      taker : (d : Deed) → IsFair h d → (t u : ℕ) (i : ℤ) → takes_by d t i ≡ true → u ≢ t → has_levels h u i ≡ 0
-      taker (deed.Takes v k) fair t u i e apart = same_both (λ v k. u ≢ v → has_levels h u k ≡ 0) t v i k e (fair u) apart
+      taker : (d : Effect) → IsFair h d → (t u : ℕ) (i : ℤ) → takes_by d t i ≡ true → u ≢ t → has_levels h u i ≡ 0
+      taker (effect.Takes v k) fair t u i e apart = same_both (λ v k. u ≢ v → has_levels h u k ≡ 0) t v i k e (fair u) apart
       taker d fair t u i e apart = none e
 
-      giver : (d : Deed) → IsFair h d → (t : ℕ) (i : ℤ) → gives_by d t i ≡ true → 0 < has_levels h t i
-      giver (deed.Gives v k) fair t i e = same_both (λ v k. 0 < has_levels h v k) t v i k e fair
+      giver : (d : Effect) → IsFair h d → (t : ℕ) (i : ℤ) → gives_by d t i ≡ true → 0 < has_levels h t i
+      giver (effect.Gives v k) fair t i e = same_both (λ v k. 0 < has_levels h v k) t v i k e fair
       giver d fair t i e = none e
 
-      giver_up : (d : Deed) → IsFair h d → (t : ℕ) (i : ℤ) → gives_up_by d t i ≡ true → 0 < has_levels h t i
-      giver_up (deed.GivesUp v k) fair t i e = same_both (λ v k. 0 < has_levels h v k) t v i k e fair
+      giver_up : (d : Effect) → IsFair h d → (t : ℕ) (i : ℤ) → gives_up_by d t i ≡ true → 0 < has_levels h t i
+      giver_up (effect.GivesUp v k) fair t i e = same_both (λ v k. 0 < has_levels h v k) t v i k e fair
       giver_up d fair t i e = none e
 
-      entrant : (d : Deed) → IsFair h d → (t u : ℕ) (l : ℤ) (write : Bool) → enters_by d t l write ≡ true → has_written h u l ≡ false
-      entrant (deed.Enters v k true) fair t u l true e = same_both (λ v k. has_written h u k ≡ false) t v l k e (fair.0 u)
-      entrant (deed.Enters v k false) fair t u l false e = same_both (λ v k. has_written h u k ≡ false) t v l k e (fair u)
+      entrant : (d : Effect) → IsFair h d → (t u : ℕ) (l : ℤ) (write : Bool) → enters_by d t l write ≡ true → has_written h u l ≡ false
+      entrant (effect.Enters v k true) fair t u l true e = same_both (λ v k. has_written h u k ≡ false) t v l k e (fair.0 u)
+      entrant (effect.Enters v k false) fair t u l false e = same_both (λ v k. has_written h u k ≡ false) t v l k e (fair u)
       entrant d fair t u l write e = none e
 
-      writer : (d : Deed) → IsFair h d → (t u : ℕ) (l : ℤ) → enters_by d t l true ≡ true → has_read h u l ≡ false
-      writer (deed.Enters v k true) fair t u l e = same_both (λ v k. has_read h u k ≡ false) t v l k e (fair.1 u)
+      writer : (d : Effect) → IsFair h d → (t u : ℕ) (l : ℤ) → enters_by d t l true ≡ true → has_read h u l ≡ false
+      writer (effect.Enters v k true) fair t u l e = same_both (λ v k. has_read h u k ≡ false) t v l k e (fair.1 u)
       writer d fair t u l e = none e
 
-      leaver : (d : Deed) → IsFair h d → (t : ℕ) (l : ℤ) → leaves_by d t l ≡ true → (has_written h t l || has_read h t l) ≡ true
-      leaver (deed.Leaves v k) fair t l e = same_both (λ v k. (has_written h v k || has_read h v k) ≡ true) t v l k e fair
+      leaver : (d : Effect) → IsFair h d → (t : ℕ) (l : ℤ) → leaves_by d t l ≡ true → (has_written h t l || has_read h t l) ≡ true
+      leaver (effect.Leaves v k) fair t l e = same_both (λ v k. (has_written h v k || has_read h v k) ≡ true) t v l k e fair
       leaver d fair t l e = none e
 
-      end_level : (d : Deed) → IsFair h d → (t : ℕ) (i : ℤ) → ends_by d t ≡ true → has_levels h t i ≡ 0
-      end_level (deed.Ends v) fair t i e = subst (λ (u : ℕ). has_levels h u i ≡ 0) (same_means v t e) (fair.0 i)
+      end_level : (d : Effect) → IsFair h d → (t : ℕ) (i : ℤ) → ends_by d t ≡ true → has_levels h t i ≡ 0
+      end_level (effect.Ends v) fair t i e = subst (λ (u : ℕ). has_levels h u i ≡ 0) (same_means v t e) (fair.0 i)
       end_level d fair t i e = none e
 
-      end_lock : (d : Deed) → IsFair h d → (t : ℕ) (l : ℤ) → ends_by d t ≡ true → (has_written h t l || has_read h t l) ≡ false
-      end_lock (deed.Ends v) fair t l e = subst (λ (u : ℕ). (has_written h u l || has_read h u l) ≡ false) (same_means v t e) (fair.1 l)
+      end_lock : (d : Effect) → IsFair h d → (t : ℕ) (l : ℤ) → ends_by d t ≡ true → (has_written h t l || has_read h t l) ≡ false
+      end_lock (effect.Ends v) fair t l e = subst (λ (u : ℕ). (has_written h u l || has_read h u l) ≡ false) (same_means v t e) (fair.1 l)
       end_lock d fair t l e = none e
 
   module _ (marks : List Mark) (f : FollowsHolds h marks) (m : Mark) where
-    abbrev done : Deed
-    done = deed_of (has_awaited h) m
+    abbrev done : Effect
+    done = effect_of (has_awaited h) m
 
     taken : (t : ℕ) (i : ℤ) → takes t i (awaits t marks) m ≡ takes_by done t i
     taken t i = ap (λ (b : Bool). takes t i b m) (sym (f.awaits t)) ∙ takes_is (has_awaited h) m t i
@@ -121,8 +121,8 @@ module _ (h : Holds) where
     held : (t : ℕ) (l : ℤ) → (has_written h t l || has_read h t l) ≡ (writes t l marks || reads t l marks)
     held t l = ap (λ (b : Bool). b || has_read h t l) (f.writes t l) ∙ ap (λ (b : Bool). writes t l marks || b) (f.reads t l)
 
-    said_of_deed : IsExclusiveAt marks m → Said done
-    said_of_deed s = record {
+    said_of_effect : IsExclusiveAt marks m → Said done
+    said_of_effect s = record {
       taker_is_alone = λ t u i e apart. f.levels u i ∙ s.taker_is_alone t u i (taken t i ∙ e) apart;
       giver_has_level = λ t i e. subst (λ (n : ℕ). 0 < n) (sym (f.levels t i)) (s.giver_has_level t i (given t i ∙ e));
       given_up_was_had = λ t i e. subst (λ (n : ℕ). 0 < n) (sym (f.levels t i)) (s.given_up_was_had t i (given_up t i ∙ e));
@@ -146,10 +146,10 @@ module _ (h : Holds) where
     }
 
     pub fair_mark : IsExclusiveAt marks m → IsFair h done
-    fair_mark s = fair_if_said done (said_of_deed s)
+    fair_mark s = fair_if_said done (said_of_effect s)
 
-    pub exclusive_deed : IsFair h done → IsExclusiveAt marks m
-    exclusive_deed fair = said_of_mark (said_if_fair done fair)
+    pub exclusive_effect : IsFair h done → IsExclusiveAt marks m
+    exclusive_effect fair = said_of_mark (said_if_fair done fair)
 
     -- ---- the mark is met
 
@@ -180,7 +180,7 @@ module _ (h : Holds) where
         ap (λ (a : Bool). if a then true else (if leaves_by done t l then false else held_now)) (sym (entered t l write))
         ∙ ap (λ (a : Bool). if enters t l write m then true else (if a then false else held_now)) (sym (left t l))
 
-    -- the deed is done, and then who awaits is told
+    -- the effect is done, and then who awaits is told
     pub follows_more : (mid new : Holds) → IsDone h mid done → new.owners ≡ mid.owners → new.writers ≡ mid.writers → new.readers ≡ mid.readers
         → ((t : ℕ) → has_awaited new t ≡ awaits_by (step_of m) t (has_awaited mid t)) → FollowsHolds new (marks ++ m ∷ [])
     follows_more mid new did owners writers readers told = record {

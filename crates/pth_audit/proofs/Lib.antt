@@ -5,7 +5,7 @@ pub mod Counted
 pub mod Few
 pub mod Finding
 pub mod Following
-pub mod HoldsDeeds
+pub mod HoldsEffects
 pub mod HoldsFree
 pub mod HoldsMaps
 pub mod HoldsReaders

@@ -11,8 +11,8 @@ use Rattle.pth_base.specs.declared.call.Call.TheVariants as call
 use Rattle.pth_base.specs.declared.mark.Mark.{Mark}
 use Rattle.pth_base.specs.declared.mark.Mark.TheVariants as mark
 use Rattle.pth_audit.specs.Success.{is_one}
-use Rattle.pth_audit.specs.declared.holds.Deed.{Deed}
-use Rattle.pth_audit.specs.declared.holds.Deed.TheVariants as deed
+use Rattle.pth_audit.specs.declared.holds.Effect.{Effect}
+use Rattle.pth_audit.specs.declared.holds.Effect.TheVariants as effect
 use Rattle.pth_audit.specs.declared.holds.Holds.{Holds}
 use Rattle.pth_audit.specs.declared.holds.Owner.{Owner}
 use Rattle.pth_audit.specs.declared.holds.AwaitStep.{AwaitStep}
@@ -21,34 +21,34 @@ use Rattle.pth_laws.specs.Exclusive.{is_of, awaits, levels, writes, reads}
 
 -- ---- what a mark does
 
--- a deed is done if a call is answered 1
-abbrev pub if_one : Deed → Answer → Deed
-if_one d a = if is_one a then d else deed.Nothing
+-- an effect is done if a call is answered 1
+abbrev pub if_one : Effect → Answer → Effect
+if_one d a = if is_one a then d else effect.Nothing
 
 -- what an answered call of u does, who may await
-abbrev pub answered_deed : Bool → ℕ → Call → Answer → Deed
-answered_deed awaiting u (call.MutexAcquire m v e) a = if_one (deed.Takes u m) a
-answered_deed awaiting u (call.CondAwait c m e) a = if awaiting then deed.Takes u m else deed.Nothing
-answered_deed awaiting u (call.MutexRelease m) a = if_one (deed.Gives u m) a
-answered_deed awaiting u (call.RwAcquire l write v e) a = if_one (deed.Enters u l write) a
-answered_deed awaiting u (call.RwRelease l) a = if_one (deed.Leaves u l) a
-answered_deed awaiting u c a = deed.Nothing
+abbrev pub answered_effect : Bool → ℕ → Call → Answer → Effect
+answered_effect awaiting u (call.MutexAcquire m v e) a = if_one (effect.Takes u m) a
+answered_effect awaiting u (call.CondAwait c m e) a = if awaiting then effect.Takes u m else effect.Nothing
+answered_effect awaiting u (call.MutexRelease m) a = if_one (effect.Gives u m) a
+answered_effect awaiting u (call.RwAcquire l write v e) a = if_one (effect.Enters u l write) a
+answered_effect awaiting u (call.RwRelease l) a = if_one (effect.Leaves u l) a
+answered_effect awaiting u c a = effect.Nothing
 
 -- what a call of u does as it begins to wait
-abbrev pub waits_deed : Bool → ℕ → Call → Deed
-waits_deed awaiting u (call.CondAwait c m e) = if awaiting then deed.Nothing else deed.Gives u m
-waits_deed awaiting u c = deed.Nothing
+abbrev pub waits_effect : Bool → ℕ → Call → Effect
+waits_effect awaiting u (call.CondAwait c m e) = if awaiting then effect.Nothing else effect.Gives u m
+waits_effect awaiting u c = effect.Nothing
 
 -- what a mark does, by who awaits
-abbrev pub deed_of : (ℕ → Bool) → Mark → Deed
-deed_of awaiting (mark.Answered u c a) = answered_deed (awaiting u.0) u.0 c a
-deed_of awaiting (mark.Waits u c) = waits_deed (awaiting u.0) u.0 c
-deed_of awaiting (mark.Took u m) = deed.Takes u.0 (pos m)
-deed_of awaiting (mark.Acted u (act.Release m) a) = if_one (deed.Gives u.0 m) a
-deed_of awaiting (mark.GaveMutex u m) = deed.GivesUp u.0 (pos m)
-deed_of awaiting (mark.GaveLock u l) = deed.Leaves u.0 (pos l)
-deed_of awaiting (mark.Ended u v) = deed.Ends u.0
-deed_of awaiting m = deed.Nothing
+abbrev pub effect_of : (ℕ → Bool) → Mark → Effect
+effect_of awaiting (mark.Answered u c a) = answered_effect (awaiting u.0) u.0 c a
+effect_of awaiting (mark.Waits u c) = waits_effect (awaiting u.0) u.0 c
+effect_of awaiting (mark.Took u m) = effect.Takes u.0 (pos m)
+effect_of awaiting (mark.Acted u (act.Release m) a) = if_one (effect.Gives u.0 m) a
+effect_of awaiting (mark.GaveMutex u m) = effect.GivesUp u.0 (pos m)
+effect_of awaiting (mark.GaveLock u l) = effect.Leaves u.0 (pos l)
+effect_of awaiting (mark.Ended u v) = effect.Ends u.0
+effect_of awaiting m = effect.Nothing
 
 -- who begins or ceases to await at a mark
 abbrev pub answered_step : ℕ → Call → AwaitStep
@@ -66,41 +66,41 @@ step_of (mark.Took u m) = step.Ceases u.0
 step_of (mark.Ended u v) = step.Ceases u.0
 step_of m = step.Same
 
--- ---- what a deed is to a thread and an object
+-- ---- what an effect is to a thread and an object
 
-abbrev pub takes_by : Deed → ℕ → ℤ → Bool
-takes_by (deed.Takes u m) t i = is_of t i u m
+abbrev pub takes_by : Effect → ℕ → ℤ → Bool
+takes_by (effect.Takes u m) t i = is_of t i u m
 takes_by d t i = false
 
-abbrev pub gives_by : Deed → ℕ → ℤ → Bool
-gives_by (deed.Gives u m) t i = is_of t i u m
+abbrev pub gives_by : Effect → ℕ → ℤ → Bool
+gives_by (effect.Gives u m) t i = is_of t i u m
 gives_by d t i = false
 
-abbrev pub gives_up_by : Deed → ℕ → ℤ → Bool
-gives_up_by (deed.GivesUp u m) t i = is_of t i u m
+abbrev pub gives_up_by : Effect → ℕ → ℤ → Bool
+gives_up_by (effect.GivesUp u m) t i = is_of t i u m
 gives_up_by d t i = false
 
-abbrev pub enters_by : Deed → ℕ → ℤ → Bool → Bool
-enters_by (deed.Enters u l true) t k write = write && is_of t k u l
-enters_by (deed.Enters u l false) t k write = not write && is_of t k u l
+abbrev pub enters_by : Effect → ℕ → ℤ → Bool → Bool
+enters_by (effect.Enters u l true) t k write = write && is_of t k u l
+enters_by (effect.Enters u l false) t k write = not write && is_of t k u l
 enters_by d t k write = false
 
-abbrev pub leaves_by : Deed → ℕ → ℤ → Bool
-leaves_by (deed.Leaves u l) t k = is_of t k u l
+abbrev pub leaves_by : Effect → ℕ → ℤ → Bool
+leaves_by (effect.Leaves u l) t k = is_of t k u l
 leaves_by d t k = false
 
-abbrev pub ends_by : Deed → ℕ → Bool
-ends_by (deed.Ends u) t = u == t
+abbrev pub ends_by : Effect → ℕ → Bool
+ends_by (effect.Ends u) t = u == t
 ends_by d t = false
 
-abbrev pub levels_by : Deed → ℕ → ℤ → ℕ → ℕ
+abbrev pub levels_by : Effect → ℕ → ℤ → ℕ → ℕ
 levels_by d t i n =
     if gives_up_by d t i then 0 else (
     if takes_by d t i then n + 1 else (
     if gives_by d t i then n - 1 else
     n))
 
-abbrev pub held_by : Deed → ℕ → ℤ → Bool → Bool → Bool
+abbrev pub held_by : Effect → ℕ → ℤ → Bool → Bool → Bool
 held_by d t l write held = if enters_by d t l write then true else (if leaves_by d t l then false else held)
 
 abbrev pub awaits_by : AwaitStep → ℕ → Bool → Bool
@@ -161,23 +161,23 @@ IsOpen h l false = (u : ℕ) → has_written h u l ≡ false
 abbrev pub HasNothing : Holds → ℕ → Type 0
 HasNothing h t = ((i : ℤ) → has_levels h t i ≡ 0) × ((l : ℤ) → (has_written h t l || has_read h t l) ≡ false)
 
--- a deed does what the law lets it do
-abbrev pub IsFair : Holds → Deed → Type 0
-IsFair h deed.Nothing = Unit {0}
-IsFair h (deed.Takes t i) = (u : ℕ) → u ≢ t → has_levels h u i ≡ 0
-IsFair h (deed.Gives t i) = 0 < has_levels h t i
-IsFair h (deed.GivesUp t i) = 0 < has_levels h t i
-IsFair h (deed.Enters t l write) = IsOpen h l write
-IsFair h (deed.Leaves t l) = (has_written h t l || has_read h t l) ≡ true
-IsFair h (deed.Ends t) = HasNothing h t
+-- an effect does what the law lets it do
+abbrev pub IsFair : Holds → Effect → Type 0
+IsFair h effect.Nothing = Unit {0}
+IsFair h (effect.Takes t i) = (u : ℕ) → u ≢ t → has_levels h u i ≡ 0
+IsFair h (effect.Gives t i) = 0 < has_levels h t i
+IsFair h (effect.GivesUp t i) = 0 < has_levels h t i
+IsFair h (effect.Enters t l write) = IsOpen h l write
+IsFair h (effect.Leaves t l) = (has_written h t l || has_read h t l) ≡ true
+IsFair h (effect.Ends t) = HasNothing h t
 
--- a count can have the level that a deed takes
-abbrev pub IsCountable : Holds → Deed → Type 0
-IsCountable h (deed.Takes t i) = has_levels h t i + 1 < 2 ^ 64
+-- a count can have the level that an effect takes
+abbrev pub IsCountable : Holds → Effect → Type 0
+IsCountable h (effect.Takes t i) = has_levels h t i + 1 < 2 ^ 64
 IsCountable h d = Unit {0}
 
--- what a deed leaves, if it was fair
-pub record IsDone (old new : Holds) (d : Deed) : Type 0 where
+-- what an effect leaves, if it was fair
+pub record IsDone (old new : Holds) (d : Effect) : Type 0 where
   pub awaits : (t : ℕ) → has_awaited new t ≡ has_awaited old t
   pub levels : (t : ℕ) (i : ℤ) → has_levels new t i ≡ levels_by d t i (has_levels old t i)
   pub writes : (t : ℕ) (l : ℤ) → has_written new t l ≡ held_by d t l true (has_written old t l)

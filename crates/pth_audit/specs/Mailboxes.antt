@@ -14,24 +14,24 @@ use Rattle.pth_numbered.specs.Operands.{◌is◌}
 use Rattle.pth_port.specs.Mail.{Mail, Message, messages_of, with_port, got}
 use Rattle.pth_port.specs.Ports.{entry_at}
 use Rattle.pth_laws.specs.InOrder.{port_index, mail}
-use Rattle.pth_audit.specs.declared.mailboxes.Letter.{Letter}
+use Rattle.pth_audit.specs.declared.mailboxes.StoredMessage.{StoredMessage}
 use Rattle.pth_audit.specs.declared.mailboxes.Mailboxes.{Mailboxes}
 
 -- a message, as the law has it
-abbrev pub message_of : Letter → Message
+abbrev pub message_of : StoredMessage → Message
 message_of l = record { number = l.number; value = l.value; reply = l.reply }
 
 module _ {Z : Type 0} where
   -- the messages of a queue, the oldest first
-  abbrev pub messages_in : VecDeque Letter Z → List Message
+  abbrev pub messages_in : VecDeque StoredMessage Z → List Message
   messages_in q = map message_of q.items
 
   -- the queue of each port, by the port's index
-  abbrev pub queues_of : List (ℕ × VecDeque Letter Z) → ℕ → Option (List Message)
+  abbrev pub queues_of : List (ℕ × VecDeque StoredMessage Z) → ℕ → Option (List Message)
   queues_of es i = option_map messages_in (entry_at es i)
 
 -- the messages that are kept, by number
-abbrev pub kept_of : List (ℕ × Letter) → ℕ → Option Message
+abbrev pub kept_of : List (ℕ × StoredMessage) → ℕ → Option Message
 kept_of es n = option_map message_of (entry_at es n)
 
 -- a message goes last to port p, if it is there

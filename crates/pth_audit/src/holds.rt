@@ -7,8 +7,8 @@ ghost use Rattle.std.specs.BTreeSet.{contains};
 ghost use Rattle.std.specs.List.{list_any};
 ghost use Rattle.std.specs.Ordering.{int_cmp, int_eq, nat_cmp};
 ghost use Rattle.pth_base.specs.declared.mark.Mark.{Mark as MarkOf};
-ghost use Rattle.pth_audit.specs.Holds.{answered_deed, waits_deed, deed_of, answered_step, waits_step, step_of, has_awaited, has_levels, has_written, has_read, reads_under, awaits_by, levels_of, has_level, is_writer, FollowsHolds, HasNothing, IsOpen, IsFair, IsCountable, IsDone};
-ghost use Rattle.pth_audit.specs.declared.holds.Deed.TheVariants.{Takes, Gives, GivesUp, Enters, Leaves};
+ghost use Rattle.pth_audit.specs.Holds.{answered_effect, waits_effect, effect_of, answered_step, waits_step, step_of, has_awaited, has_levels, has_written, has_read, reads_under, awaits_by, levels_of, has_level, is_writer, FollowsHolds, HasNothing, IsOpen, IsFair, IsCountable, IsDone};
+ghost use Rattle.pth_audit.specs.declared.holds.Effect.TheVariants.{Takes, Gives, GivesUp, Enters, Leaves};
 ghost use Rattle.pth_laws.specs.Exclusive.{IsExclusiveAt, is_of};
 ghost use Rattle.pth_laws.specs.Marks.{is_same};
 
@@ -25,7 +25,7 @@ use std::collections::{BTreeMap, BTreeSet};
 // What a mark does with a mutex or a lock: a thread takes a level of a mutex, gives one back, gives the mutex up, enters a lock, to write
 // or to read, leaves it, or ends.
 #[derive(Clone, Copy)]
-enum Deed {
+enum Effect {
     Nothing,
     Takes(u32, i64),
     Gives(u32, i64),
@@ -43,26 +43,26 @@ enum AwaitStep {
     Same,
 }
 
-fn answered_deed(awaiting: bool, u: u32, call: &Call, answer: &Answer) -> Deed
-    ensures { result ≡ answered_deed awaiting u call.now answer.now }
+fn answered_effect(awaiting: bool, u: u32, call: &Call, answer: &Answer) -> Effect
+    ensures { result ≡ answered_effect awaiting u call.now answer.now }
 {
     let done = is_one(answer);
     match call {
-        Call::MutexAcquire { m, .. } if done => Deed::Takes(u, *m),
-        Call::CondAwait { m, .. } if awaiting => Deed::Takes(u, *m),
-        Call::MutexRelease(m) if done => Deed::Gives(u, *m),
-        Call::RwAcquire { l, write, .. } if done => Deed::Enters(u, *l, *write),
-        Call::RwRelease(l) if done => Deed::Leaves(u, *l),
-        _ => Deed::Nothing,
+        Call::MutexAcquire { m, .. } if done => Effect::Takes(u, *m),
+        Call::CondAwait { m, .. } if awaiting => Effect::Takes(u, *m),
+        Call::MutexRelease(m) if done => Effect::Gives(u, *m),
+        Call::RwAcquire { l, write, .. } if done => Effect::Enters(u, *l, *write),
+        Call::RwRelease(l) if done => Effect::Leaves(u, *l),
+        _ => Effect::Nothing,
     }
 }
 
-fn waits_deed(awaiting: bool, u: u32, call: &Call) -> Deed
-    ensures { result ≡ waits_deed awaiting u call.now }
+fn waits_effect(awaiting: bool, u: u32, call: &Call) -> Effect
+    ensures { result ≡ waits_effect awaiting u call.now }
 {
     match call {
-        Call::CondAwait { m, .. } if !awaiting => Deed::Gives(u, *m),
-        _ => Deed::Nothing,
+        Call::CondAwait { m, .. } if !awaiting => Effect::Gives(u, *m),
+        _ => Effect::Nothing,
     }
 }
 
@@ -270,24 +270,24 @@ impl Holds {
     }
 
     // What a mark does.
-    fn deed(&self, mark: &Mark) -> Deed
-        ensures { result ≡ deed_of (has_awaited self.now) mark.now }
+    fn effect(&self, mark: &Mark) -> Effect
+        ensures { result ≡ effect_of (has_awaited self.now) mark.now }
     {
         match mark {
             Mark::Answered { tid, call, answer } => {
-                answered_deed(self.is_awaiting(tid.0), tid.0, call, answer)
+                answered_effect(self.is_awaiting(tid.0), tid.0, call, answer)
             }
-            Mark::Waits { tid, call } => waits_deed(self.is_awaiting(tid.0), tid.0, call),
-            Mark::Took { tid, mutex } => Deed::Takes(tid.0, i64::from(*mutex)),
+            Mark::Waits { tid, call } => waits_effect(self.is_awaiting(tid.0), tid.0, call),
+            Mark::Took { tid, mutex } => Effect::Takes(tid.0, i64::from(*mutex)),
             Mark::Acted {
                 tid,
                 act: Act::Release(m),
                 answer,
-            } if is_one(answer) => Deed::Gives(tid.0, *m),
-            Mark::GaveMutex { tid, mutex } => Deed::GivesUp(tid.0, i64::from(*mutex)),
-            Mark::GaveLock { tid, lock } => Deed::Leaves(tid.0, i64::from(*lock)),
-            Mark::Ended { tid, .. } => Deed::Ends(tid.0),
-            _ => Deed::Nothing,
+            } if is_one(answer) => Effect::Gives(tid.0, *m),
+            Mark::GaveMutex { tid, mutex } => Effect::GivesUp(tid.0, i64::from(*mutex)),
+            Mark::GaveLock { tid, lock } => Effect::Leaves(tid.0, i64::from(*lock)),
+            Mark::Ended { tid, .. } => Effect::Ends(tid.0),
+            _ => Effect::Nothing,
         }
     }
 
@@ -397,18 +397,18 @@ impl Holds {
         self.levels(t, i) > 0
     }
 
-    // Whether the law lets a deed be done.
-    fn is_fair(&self, deed: Deed) -> bool
-        ensures { Decides result (IsFair self.now deed) }
+    // Whether the law lets an effect be done.
+    fn is_fair(&self, effect: Effect) -> bool
+        ensures { Decides result (IsFair self.now effect) }
     {
-        match deed {
-            Deed::Nothing => true,
-            Deed::Takes(t, i) => self.may_take(t, i),
-            Deed::Gives(t, i) => self.has_level(t, i),
-            Deed::GivesUp(t, i) => self.has_level(t, i),
-            Deed::Enters(_, l, write) => self.may_enter(l, write),
-            Deed::Leaves(t, l) => self.holds(t, l),
-            Deed::Ends(t) => self.has_nothing(t),
+        match effect {
+            Effect::Nothing => true,
+            Effect::Takes(t, i) => self.may_take(t, i),
+            Effect::Gives(t, i) => self.has_level(t, i),
+            Effect::GivesUp(t, i) => self.has_level(t, i),
+            Effect::Enters(_, l, write) => self.may_enter(l, write),
+            Effect::Leaves(t, l) => self.holds(t, l),
+            Effect::Ends(t) => self.has_nothing(t),
         }
     }
 
@@ -419,12 +419,12 @@ impl Holds {
         self.levels(t, i) < u64::MAX
     }
 
-    // Whether a count can have the level that a deed takes.
-    fn is_countable(&self, deed: Deed) -> bool
-        ensures { Decides result (IsCountable self.now deed) }
+    // Whether a count can have the level that an effect takes.
+    fn is_countable(&self, effect: Effect) -> bool
+        ensures { Decides result (IsCountable self.now effect) }
     {
-        match deed {
-            Deed::Takes(t, i) => self.has_count(t, i),
+        match effect {
+            Effect::Takes(t, i) => self.has_count(t, i),
             _ => true,
         }
     }
@@ -472,22 +472,22 @@ impl Holds {
         remove_reader(&mut self.readers, t, l);
     }
 
-    // A deed is done.
-    fn carry_out(&mut self, deed: Deed) -> Result<(), OutOfMemory>
-        requires { IsCountable self.old deed }
-        ensures { OnOk result (IsFair self.old deed → IsDone self.old self.new deed) }
+    // An effect is done.
+    fn carry_out(&mut self, effect: Effect) -> Result<(), OutOfMemory>
+        requires { IsCountable self.old effect }
+        ensures { OnOk result (IsFair self.old effect → IsDone self.old self.new effect) }
     {
-        match deed {
-            Deed::Nothing => Ok(()),
-            Deed::Takes(t, i) => self.take(t, i),
-            Deed::Gives(t, i) => self.give(t, i),
-            Deed::GivesUp(t, i) => self.give_up(t, i),
-            Deed::Enters(t, l, write) => self.enter(t, l, write),
-            Deed::Leaves(t, l) => {
+        match effect {
+            Effect::Nothing => Ok(()),
+            Effect::Takes(t, i) => self.take(t, i),
+            Effect::Gives(t, i) => self.give(t, i),
+            Effect::GivesUp(t, i) => self.give_up(t, i),
+            Effect::Enters(t, l, write) => self.enter(t, l, write),
+            Effect::Leaves(t, l) => {
                 self.leave(t, l);
                 Ok(())
             }
-            Deed::Ends(_) => Ok(()),
+            Effect::Ends(_) => Ok(()),
         }
     }
 
@@ -495,7 +495,7 @@ impl Holds {
     pub(crate) fn is_lawful(&self, mark: &Mark) -> bool
         ensures { (marks : List MarkOf) → FollowsHolds self.now marks → Decides result (IsExclusiveAt marks mark.now) }
     {
-        self.is_fair(self.deed(mark))
+        self.is_fair(self.effect(mark))
     }
 
     /// Meets one more mark, which keeps the law.
@@ -505,11 +505,11 @@ impl Holds {
         ensures overflow { IsErrOf result AuditErr.Overflow → (marks : List MarkOf) → FollowsHolds self.old marks
             → 2 ^ 64 ≤ length marks + 1 }
     {
-        let deed = self.deed(mark);
-        if !self.is_countable(deed) {
+        let effect = self.effect(mark);
+        if !self.is_countable(effect) {
             return Err(AuditErr::Overflow);
         }
-        self.carry_out(deed)?;
+        self.carry_out(effect)?;
         Ok(set_awaiting(&mut self.awaiting, step_of(mark))?)
     }
 }

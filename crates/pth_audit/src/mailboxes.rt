@@ -23,7 +23,7 @@ use std::collections::{BTreeMap, VecDeque};
 
 // A message: its number, its value, and the index of the port for its reply, 0 for none.
 #[derive(Clone, Copy)]
-struct Letter {
+struct StoredMessage {
     number: u64,
     value: i64,
     reply: u128,
@@ -52,7 +52,7 @@ fn message_number(m: i64) -> u64
 }
 
 // Whether a port is there.
-fn has_port(ports: &BTreeMap<u128, VecDeque<Letter>>, i: u128) -> bool
+fn has_port(ports: &BTreeMap<u128, VecDeque<StoredMessage>>, i: u128) -> bool
     ensures { result ≡ is_some (queues_of ports.now.entries i) }
 {
     ports.contains_key(&i)
@@ -60,9 +60,9 @@ fn has_port(ports: &BTreeMap<u128, VecDeque<Letter>>, i: u128) -> bool
 
 // A port has this queue from now on.
 fn set_queue(
-    ports: &mut BTreeMap<u128, VecDeque<Letter>>,
+    ports: &mut BTreeMap<u128, VecDeque<StoredMessage>>,
     i: u128,
-    queue: VecDeque<Letter>,
+    queue: VecDeque<StoredMessage>,
 ) -> Result<(), OutOfMemory>
     ensures { OnOk result (queues_of ports.new.entries
         ≡ put (queues_of ports.old.entries) i (Some (map message_of queue.items))) }
@@ -72,7 +72,10 @@ fn set_queue(
 }
 
 // A port is gone. The answer is its queue.
-fn take_queue(ports: &mut BTreeMap<u128, VecDeque<Letter>>, i: u128) -> Option<VecDeque<Letter>>
+fn take_queue(
+    ports: &mut BTreeMap<u128, VecDeque<StoredMessage>>,
+    i: u128,
+) -> Option<VecDeque<StoredMessage>>
     ensures ports { queues_of ports.new.entries ≡ put (queues_of ports.old.entries) i None }
     ensures queue { option_map messages_in result ≡ queues_of ports.old.entries i }
 {
@@ -81,24 +84,24 @@ fn take_queue(ports: &mut BTreeMap<u128, VecDeque<Letter>>, i: u128) -> Option<V
 
 // A message goes last to a port; it ceases where the port is gone.
 fn add_last(
-    ports: &mut BTreeMap<u128, VecDeque<Letter>>,
+    ports: &mut BTreeMap<u128, VecDeque<StoredMessage>>,
     i: u128,
-    letter: Letter,
+    stored: StoredMessage,
 ) -> Result<(), OutOfMemory>
     ensures { OnOk result (queues_of ports.new.entries
-        ≡ sent_at i (message_of letter) (queues_of ports.old.entries)) }
+        ≡ sent_at i (message_of stored) (queues_of ports.old.entries)) }
 {
     if let Some(queue) = ports.get_mut(&i) {
-        queue.push_back(letter)?;
+        queue.push_back(stored)?;
     }
     Ok(())
 }
 
 // The oldest message of a port is taken. The answer is that message.
-fn take_first(ports: &mut BTreeMap<u128, VecDeque<Letter>>, i: u128) -> Option<Letter>
+fn take_first(ports: &mut BTreeMap<u128, VecDeque<StoredMessage>>, i: u128) -> Option<StoredMessage>
     ensures ports { queues_of ports.new.entries
         ≡ without_first i (messages_of (queues_of ports.old.entries i)) (queues_of ports.old.entries) }
-    ensures letter { option_map message_of result
+    ensures stored { option_map message_of result
         ≡ first (messages_of (queues_of ports.old.entries i)) }
 {
     match ports.get_mut(&i) {
@@ -108,7 +111,7 @@ fn take_first(ports: &mut BTreeMap<u128, VecDeque<Letter>>, i: u128) -> Option<L
 }
 
 // The oldest message of a port.
-fn first_at(ports: &BTreeMap<u128, VecDeque<Letter>>, i: u128) -> Option<Letter>
+fn first_at(ports: &BTreeMap<u128, VecDeque<StoredMessage>>, i: u128) -> Option<StoredMessage>
     ensures { option_map message_of result ≡ first (messages_of (queues_of ports.now.entries i)) }
 {
     match ports.get(&i) {
@@ -118,7 +121,7 @@ fn first_at(ports: &BTreeMap<u128, VecDeque<Letter>>, i: u128) -> Option<Letter>
 }
 
 // How many messages a port has.
-fn count_at(ports: &BTreeMap<u128, VecDeque<Letter>>, i: u128) -> usize
+fn count_at(ports: &BTreeMap<u128, VecDeque<StoredMessage>>, i: u128) -> usize
     ensures { result ≡ length (messages_of (queues_of ports.now.entries i)) }
 {
     match ports.get(&i) {
@@ -128,11 +131,11 @@ fn count_at(ports: &BTreeMap<u128, VecDeque<Letter>>, i: u128) -> usize
 }
 
 // Whether a message is the oldest of a port, by its number and its value.
-fn is_oldest(ports: &BTreeMap<u128, VecDeque<Letter>>, i: u128, n: u64, value: i64) -> bool
+fn is_oldest(ports: &BTreeMap<u128, VecDeque<StoredMessage>>, i: u128, n: u64, value: i64) -> bool
     ensures { result ≡ is_first n value (first (messages_of (queues_of ports.now.entries i))) }
 {
     match first_at(ports, i) {
-        Some(letter) => letter.number == n && letter.value == value,
+        Some(stored) => stored.number == n && stored.value == value,
         None => false,
     }
 }
@@ -145,7 +148,11 @@ fn is_count(n: i64, count: usize) -> bool
 }
 
 // Whether what a call for the oldest message of a port is answered is true of the port.
-fn is_got_in_order(ports: &BTreeMap<u128, VecDeque<Letter>>, i: u128, answer: &Answer) -> bool
+fn is_got_in_order(
+    ports: &BTreeMap<u128, VecDeque<StoredMessage>>,
+    i: u128,
+    answer: &Answer,
+) -> bool
     ensures { result ≡ is_got_in_order answer.now (messages_of (queues_of ports.now.entries i)) }
 {
     match answer {
@@ -156,7 +163,11 @@ fn is_got_in_order(ports: &BTreeMap<u128, VecDeque<Letter>>, i: u128, answer: &A
 }
 
 // The same of a call for the number of messages.
-fn is_counted_in_order(ports: &BTreeMap<u128, VecDeque<Letter>>, i: u128, answer: &Answer) -> bool
+fn is_counted_in_order(
+    ports: &BTreeMap<u128, VecDeque<StoredMessage>>,
+    i: u128,
+    answer: &Answer,
+) -> bool
     ensures { result ≡ is_counted_in_order answer.now (messages_of (queues_of ports.now.entries i)) }
 {
     match answer {
@@ -167,7 +178,7 @@ fn is_counted_in_order(ports: &BTreeMap<u128, VecDeque<Letter>>, i: u128, answer
 
 // Whether what a call is answered is true of the port that it names.
 fn is_answer_in_order(
-    ports: &BTreeMap<u128, VecDeque<Letter>>,
+    ports: &BTreeMap<u128, VecDeque<StoredMessage>>,
     call: &Call,
     answer: &Answer,
 ) -> bool
@@ -181,38 +192,38 @@ fn is_answer_in_order(
 }
 
 // A message is kept, where it has a port for its reply.
-fn keep(kept: &mut BTreeMap<u64, Letter>, letter: Letter) -> Result<(), OutOfMemory>
+fn keep(kept: &mut BTreeMap<u64, StoredMessage>, stored: StoredMessage) -> Result<(), OutOfMemory>
     ensures { OnOk result (kept_of kept.new.entries
-        ≡ (if letter.reply == 0 then kept_of kept.old.entries else put (kept_of kept.old.entries) letter.number (Some (message_of letter)))) }
+        ≡ (if stored.reply == 0 then kept_of kept.old.entries else put (kept_of kept.old.entries) stored.number (Some (message_of stored)))) }
 {
-    if letter.reply == 0 {
+    if stored.reply == 0 {
         return Ok(());
     }
-    let _before = kept.insert(letter.number, letter)?;
+    let _before = kept.insert(stored.number, stored)?;
     Ok(())
 }
 
 // A message that is kept, by its number.
-fn kept_letter(kept: &BTreeMap<u64, Letter>, n: u64) -> Option<Letter>
+fn kept_stored(kept: &BTreeMap<u64, StoredMessage>, n: u64) -> Option<StoredMessage>
     ensures { option_map message_of result ≡ kept_of kept.now.entries n }
 {
     kept.get(&n).copied()
 }
 
 // A message is kept no longer.
-fn forget(kept: &mut BTreeMap<u64, Letter>, n: u64)
+fn forget(kept: &mut BTreeMap<u64, StoredMessage>, n: u64)
     ensures { kept_of kept.new.entries ≡ put (kept_of kept.old.entries) n None }
 {
-    let _letter = kept.remove(&n);
+    let _stored = kept.remove(&n);
 }
 
 /// The messages that marks tell of.
 #[derive(Drop)]
 pub(crate) struct Mailboxes {
     // Of each port that is there, by its index, its messages, the oldest first.
-    ports: BTreeMap<u128, VecDeque<Letter>>,
+    ports: BTreeMap<u128, VecDeque<StoredMessage>>,
     // By its number, each message that was got and has a port for its reply.
-    kept: BTreeMap<u64, Letter>,
+    kept: BTreeMap<u64, StoredMessage>,
     // How many messages were ever put.
     made: u64,
     alloc: Global,
@@ -264,10 +275,10 @@ impl Mailboxes {
     }
 
     // A message goes last to a port; it ceases where the port is gone.
-    fn send(&mut self, i: u128, letter: Letter) -> Result<(), OutOfMemory>
-        ensures { OnOk result (mail_of self.new ≡ sent i (message_of letter) (mail_of self.old)) }
+    fn send(&mut self, i: u128, stored: StoredMessage) -> Result<(), OutOfMemory>
+        ensures { OnOk result (mail_of self.new ≡ sent i (message_of stored) (mail_of self.old)) }
     {
-        add_last(&mut self.ports, i, letter)
+        add_last(&mut self.ports, i, stored)
     }
 
     // A message is put, where there is the port, and the port for the reply.
@@ -293,7 +304,7 @@ impl Mailboxes {
         self.made = number;
         self.send(
             i,
-            Letter {
+            StoredMessage {
                 number,
                 value,
                 reply,
@@ -307,7 +318,7 @@ impl Mailboxes {
             ≡ got i (messages_of ((mail_of self.old).at i)) (mail_of self.old)) }
     {
         match take_first(&mut self.ports, i) {
-            Some(letter) => keep(&mut self.kept, letter),
+            Some(stored) => keep(&mut self.kept, stored),
             None => Ok(()),
         }
     }
@@ -317,25 +328,25 @@ impl Mailboxes {
         ensures { OnOk result (mail_of self.new
             ≡ replied value ((mail_of self.old).kept n) (mail_of self.old)) }
     {
-        match kept_letter(&self.kept, n) {
-            Some(letter) => self.send_reply(value, letter),
+        match kept_stored(&self.kept, n) {
+            Some(stored) => self.send_reply(value, stored),
             None => Ok(()),
         }
     }
 
     // A message goes back with a value, where its port for the reply is there.
-    fn send_reply(&mut self, value: i64, letter: Letter) -> Result<(), OutOfMemory>
+    fn send_reply(&mut self, value: i64, stored: StoredMessage) -> Result<(), OutOfMemory>
         ensures { OnOk result (mail_of self.new
-            ≡ replied value (Some (message_of letter)) (mail_of self.old)) }
+            ≡ replied value (Some (message_of stored)) (mail_of self.old)) }
     {
-        if !has_port(&self.ports, letter.reply) {
+        if !has_port(&self.ports, stored.reply) {
             return Ok(());
         }
-        forget(&mut self.kept, letter.number);
+        forget(&mut self.kept, stored.number);
         self.send(
-            letter.reply,
-            Letter {
-                number: letter.number,
+            stored.reply,
+            StoredMessage {
+                number: stored.number,
                 value,
                 reply: 0,
             },
@@ -343,17 +354,17 @@ impl Mailboxes {
     }
 
     // Messages go to their ports for the reply.
-    fn send_back(&mut self, queue: &VecDeque<Letter>) -> Result<(), OutOfMemory>
+    fn send_back(&mut self, queue: &VecDeque<StoredMessage>) -> Result<(), OutOfMemory>
         ensures { OnOk result (mail_of self.new
             ≡ sent_back (map message_of queue.now.items) (mail_of self.old)) }
     {
-        for letter in queue {
-            let back = Letter {
-                number: letter.number,
-                value: letter.value,
+        for stored in queue {
+            let back = StoredMessage {
+                number: stored.number,
+                value: stored.value,
                 reply: 0,
             };
-            self.send(letter.reply, back)?;
+            self.send(stored.reply, back)?;
         }
         Ok(())
     }

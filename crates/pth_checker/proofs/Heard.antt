@@ -8,10 +8,10 @@ use Rattle.pth_audit.specs.Verdicts.{BreaksFirst}
 use Rattle.pth_audit.specs.declared.verdict.AuditRule.{AuditRule}
 use Rattle.pth_base.specs.declared.mark.Mark.{Mark}
 use Rattle.pth_checker.specs.Fitting.{FitsEnding}
-use Rattle.pth_checker.specs.Hearing.{ComesTo, GoesOn, HasHeard, HasRead}
+use Rattle.pth_checker.specs.Session.{ComesTo, GoesOn, HasHeard, HasRead}
 use Rattle.pth_checker.specs.Judged.{BeginsLawfully, HoldsUpTo, HoldsVerdict}
 use Rattle.pth_checker.specs.Judging.{Judges}
-use Rattle.pth_checker.specs.declared.hearing.Hearing.{Hearing}
+use Rattle.pth_checker.specs.declared.session.Session.{Session}
 use Rattle.pth_checker.specs.declared.judge.Judge.{Judge}
 use Rattle.pth_checker.specs.declared.verdict.Law.TheVariants as law
 use Rattle.pth_checker.specs.declared.verdict.Verdict.{Verdict}
@@ -45,7 +45,7 @@ marks_more (t ∷ ts) last = ap (λ (ms : List Mark). t.mark ∷ ms) (marks_more
 -- ---- on the way
 
 -- one line more was read
-read_more : (content left later : Option (List ℕ)) (h after : Hearing) (told : List Told) (part : Part) → HasHeard content h left told
+read_more : (content left later : Option (List ℕ)) (h after : Session) (told : List Told) (part : Part) → HasHeard content h left told
     → Takes (ahead h.reader.unread left) (ahead after.reader.unread later) (part_line part) → after.reader.lines ≡ h.reader.lines + 1 → after.judge ≡ h.judge
     → IsPlainPart part → HasRead content after later told part
 read_more content left later h after told part heard takes lines same plain = record {
@@ -57,23 +57,23 @@ read_more content left later h after told part heard takes lines same plain = re
 }
 
 -- the line that was read is that of this part
-pub read_as : (content left later : Option (List ℕ)) (h after : Hearing) (told : List Told) (found part : Part) → found ≡ part → HasHeard content h left told
+pub read_as : (content left later : Option (List ℕ)) (h after : Session) (told : List Told) (found part : Part) → found ≡ part → HasHeard content h left told
     → Takes (ahead h.reader.unread left) (ahead after.reader.unread later) (part_line found) → after.reader.lines ≡ h.reader.lines + 1 → after.judge ≡ h.judge
     → IsPlainPart found → HasRead content after later told part
 read_as content left later h after told found part is heard takes lines same plain =
     subst (HasRead content after later told) is (read_more content left later h after told found heard takes lines same plain)
 
 -- what is read is the same object as before
-pub read_of_same : (content input file : Option (List ℕ)) (h : Hearing) (told : List Told) (part : Part) (before now : Bool) → now ≡ before
+pub read_of_same : (content input file : Option (List ℕ)) (h : Session) (told : List Told) (part : Part) (before now : Bool) → now ≡ before
     → HasRead content h (of_read before input file) told part → HasRead content h (of_read now input file) told part
 read_of_same content input file h told part before now same read = subst (λ (b : Bool). HasRead content h (of_read b input file) told part) (sym same) read
 
-pub heard_of_same : (content input file : Option (List ℕ)) (h : Hearing) (told : List Told) (before now : Bool) → now ≡ before
+pub heard_of_same : (content input file : Option (List ℕ)) (h : Session) (told : List Told) (before now : Bool) → now ≡ before
     → HasHeard content h (of_read before input file) told → HasHeard content h (of_read now input file) told
 heard_of_same content input file h told before now same heard = subst (λ (b : Bool). HasHeard content h (of_read b input file) told) (sym same) heard
 
 -- it is the line of a lawful mark
-pub heard_more : (content left : Option (List ℕ)) (h after : Hearing) (told : List Told) (last : Told) → HasRead content h left told (part.Mark last)
+pub heard_more : (content left : Option (List ℕ)) (h after : Session) (told : List Told) (last : Told) → HasRead content h left told (part.Mark last)
     → after.reader ≡ h.reader → Judges after.judge (marks_of told ++ last.mark ∷ []) → HasHeard content after left (told ++ last ∷ [])
 heard_more content left h after told last read same judges = record {
   taken = subst (λ (u : List ℕ). Takes (ahead [] content) (ahead u left) (told_lines (told ++ last ∷ []))) (sym (ap (λ r. r.unread) same))
@@ -86,13 +86,13 @@ heard_more content left h after told last read same judges = record {
 -- ---- in the end
 
 -- the content begins with what was read
-begins : (content left : Option (List ℕ)) (h : Hearing) (told : List Told) (part : Part) → HasRead content h left told part
+begins : (content left : Option (List ℕ)) (h : Session) (told : List Told) (part : Part) → HasRead content h left told part
     → (bytes : List ℕ) × (rest : List ℕ) × AreHeld content bytes × BeginsLawfully bytes told (part_line part ++ rest)
 begins content left h told part read =
     let f = front content (ahead h.reader.unread left) (told_lines told ++ part_line part) read.taken in
     (f.0, f.1, f.2, record { text = f.3 ∙ append_assoc (told_lines told) (part_line part) f.1; plain = read.plain; lawful = read.judges.laws.lawful })
 
-module _ (content left : Option (List ℕ)) (h : Hearing) (told : List Told) where
+module _ (content left : Option (List ℕ)) (h : Session) (told : List Told) where
   pub breaks_law : (last : Told) (rule : AuditRule) (line : ℕ) → HasRead content h left told (part.Mark last) → line ≡ h.reader.lines
       → BreaksFirst rule (marks_of told ++ last.mark ∷ []) → HoldsVerdict content (Unlawful line (law.Marks rule))
   breaks_law last rule line read here breaks =
@@ -131,11 +131,11 @@ module _ (content left : Option (List ℕ)) (h : Hearing) (told : List Told) whe
   not_read fault.WriteFault heard comes = comes
 
 -- what comes of a line by whether there is a verdict
-pub goes_on_as : (content left : Option (List ℕ)) (h : Hearing) (found is : Option Verdict) → found ≡ is → GoesOn content h left (Ok found) → GoesOn content h left (Ok is)
+pub goes_on_as : (content left : Option (List ℕ)) (h : Session) (found is : Option Verdict) → found ≡ is → GoesOn content h left (Ok found) → GoesOn content h left (Ok is)
 goes_on_as content left h found is same goes = subst (λ (o : Option Verdict). GoesOn content h left (Ok o)) same goes
 
 -- a `?` goes on with the fault that it met
-pub goes_wrong : (content left : Option (List ℕ)) (h : Hearing) (r : Result (Option Verdict) Fault) (f : Fault) → IsErr r → IsErrAnd r (λ x. x ≡ f)
+pub goes_wrong : (content left : Option (List ℕ)) (h : Session) (r : Result (Option Verdict) Fault) (f : Fault) → IsErr r → IsErrAnd r (λ x. x ≡ f)
     → ComesTo content (Err f) → GoesOn content h left r
 goes_wrong content left h r f err same comes = subst (GoesOn content h left) (sym (err_is r f err same)) comes
 

@@ -3,6 +3,6 @@ pub mod Following
 pub mod Judging
 pub mod Judged
 pub mod VerdictLines
-pub mod Hearing
+pub mod Session
 pub mod Words
 pub mod Check

@@ -7,10 +7,10 @@
 //! nothing is said of them.
 #![tactic(auto)]
 
-mod hearing;
 mod judge;
 mod living;
 mod run;
+mod session;
 mod top;
 pub mod verdict;
 mod words;

@@ -2,7 +2,7 @@
 
 ghost use Rattle.std.specs.Prelude.{◌≡◌, map, string_bytes};
 ghost use Rattle.pth_checker.specs.Check.{CountsRead, OthersStay, Ran, RanFor};
-ghost use Rattle.pth_checker.specs.Hearing.{ComesTo};
+ghost use Rattle.pth_checker.specs.Session.{ComesTo};
 ghost use Rattle.pth_checker.specs.VerdictLines.{verdict_line};
 ghost use Rattle.pth_checker.specs.Words.{asked_by, name_of};
 ghost use Rattle.pth_streams.specs.Inputs.{inputs};
@@ -11,7 +11,7 @@ ghost use Rattle.pth_streams.specs.Scene.{scene};
 ghost use Rattle.pth_transcript.specs.Reading.{CountsFault};
 ghost use Rattle.pth_transcript.specs.Taking.{OtherStays, content_under, is_file, of_read};
 
-use crate::hearing::Hearing;
+use crate::session::Session;
 use crate::verdict::Verdict;
 use crate::words::read_words;
 use pth_streams::files::Files;
@@ -35,8 +35,8 @@ fn judged<S: Source, F: Files>(
         (of_read (is_file (name_of name.entry)) (S.faults input.new) (F.faults files.new)) result }
     ensures other { OtherStays (is_file (name_of name.entry)) input.old input.new files.old files.new }
 {
-    let mut hearing = Hearing::open(alloc, name, files)?;
-    hearing.judge(alloc, input, files)
+    let mut session = Session::open(alloc, name, files)?;
+    session.judge(alloc, input, files)
 }
 
 // Writes the line of a verdict.

@@ -11,7 +11,7 @@ use Rattle.pth_drawing.specs.declared.drawing.Drawing.{Drawing}
 use Rattle.pth_drawing.specs.Drawing.{columns_of, moved_after, moved_in, moment_at, moments_from}
 use Rattle.pth_drawing.specs.Follow.{HasLane, Knows, IsColumnMore, IsWithin, Draws}
 use Rattle.pth_drawing.specs.States.{Turn, dispatched, turns_of}
-use Rattle.pth_drawing.specs.Tracks.{TrackSeen, news_of, track_in, run}
+use Rattle.pth_drawing.specs.Tracks.{TrackSeen, thread_event_of, track_in, run}
 use Rattle.pth_drawing.proofs.DrawnTurns.{part, part_before, length_part, part_more, part_after, length_heard, part_heard, part_heard_after}
 use Rattle.pth_drawing.proofs.Heard.{drawn_heard, drawn_more}
 use Rattle.pth_drawing.proofs.Standing.{heard_by, knows_more}
@@ -19,9 +19,9 @@ use Rattle.pth_drawing.proofs.Turns.{heard, turns_more, turns_same}
 
 -- ---- a Dispatch
 
-no_news : (m : Mark) (t : ℕ) → dispatched m ≡ Some t → news_of m ≡ None
-no_news (mark.Dispatch turn at u rank waited allowed) t is = refl
-no_news m t is = absurd (cc)
+no_thread_event : (m : Mark) (t : ℕ) → dispatched m ≡ Some t → thread_event_of m ≡ None
+no_thread_event (mark.Dispatch turn at u rank waited allowed) t is = refl
+no_thread_event m t is = absurd (cc)
 
 moved_none : (m : Mark) (t : ℕ) (last : Option ℕ) → dispatched m ≡ Some t → moved_after last m ≡ None
 moved_none (mark.Dispatch turn at u rank waited allowed) t last is = refl
@@ -31,7 +31,7 @@ moved_more : (marks : List Mark) (m : Mark) → moved_in (marks ++ m ∷ []) ≡
 moved_more marks m = fold-append moved_after None marks (m ∷ [])
 
 knows_dispatched : (t u : ℕ) (marks : List Mark) (m : Mark) (x : TrackSeen) → dispatched m ≡ Some u → Knows t marks x → Knows t (marks ++ m ∷ []) x
-knows_dispatched t u marks m x is k = subst (Knows t (marks ++ m ∷ [])) (ap (λ o. heard_by t 0 o x) (no_news m u is)) (knows_more t 0 marks m x k)
+knows_dispatched t u marks m x is k = subst (Knows t (marks ++ m ∷ [])) (ap (λ o. heard_by t 0 o x) (no_thread_event m u is)) (knows_more t 0 marks m x k)
 
 knows_running : (b : Bool) (t n : ℕ) (marks : List Mark) (x : TrackSeen) → Knows t marks x → Knows t marks (if b then run n x else x)
 knows_running true t n marks x k = record { is_there = k.is_there; has_ended = k.has_ended; is_waiting = k.is_waiting }
@@ -211,7 +211,7 @@ module _ (d : Drawing) (from turns : ℕ) (marks : List Mark) (m : Mark) (f : Dr
   pub record IsHeard (new : Sheet) : Type 0 where
     pub count : new.count ≡ d.sheet.count
     pub moments : new.moments.items ≡ d.sheet.moments.items
-    pub tracks : (t : ℕ) → track_in new.tracks.by_thread t ≡ heard_by t d.sheet.count (news_of m) (track_in d.sheet.tracks.by_thread t)
+    pub tracks : (t : ℕ) → track_in new.tracks.by_thread t ≡ heard_by t d.sheet.count (thread_event_of m) (track_in d.sheet.tracks.by_thread t)
 
   pub heard_more : dispatched m ≡ None → d.is_over ≡ false → (new : Sheet) (last : Option ℕ) → IsHeard new → last ≡ moved_after d.moved m → Draws (record d { moved = last; sheet = new }) from turns (marks ++ m ∷ [])
   heard_more other going new last c moved =
@@ -222,12 +222,12 @@ module _ (d : Drawing) (from turns : ℕ) (marks : List Mark) (m : Mark) (f : Dr
         wanted = f.wanted;
         count = c.count ∙ f.count ∙ sym (length_heard m now) ∙ ap length back;
         moments = c.moments ∙ f.moments ∙ sym (moments_heard 0 m now) ∙ ap (moments_from 0) back;
-        drawn = λ t. subst (HasLane t next) (sym (tracks t)) (subst (λ (l : List Turn). HasLane t l (heard_by t (length now) (news_of m) (track_in d.sheet.tracks.by_thread t))) back (drawn_heard t m now (track_in d.sheet.tracks.by_thread t) (f.drawn t)));
+        drawn = λ t. subst (HasLane t next) (sym (tracks t)) (subst (λ (l : List Turn). HasLane t l (heard_by t (length now) (thread_event_of m) (track_in d.sheet.tracks.by_thread t))) back (drawn_heard t m now (track_in d.sheet.tracks.by_thread t) (f.drawn t)));
         over = λ h. absurd (false≢true (sym going ∙ h));
         within = λ h. record { ahead = omega (arith, w.ahead, more); within = omega (arith, w.within, more) };
         moved = λ h. moved ∙ ap (λ (o : Option ℕ). moved_after o m) (f.moved going) ∙ sym (moved_more marks m);
         known = λ h t. subst (Knows t (marks ++ m ∷ [])) (sym (tracks t)) (knows_more t (length now) marks m (track_in d.sheet.tracks.by_thread t) (f.known going t));
       }
     where
-      tracks : (t : ℕ) → track_in new.tracks.by_thread t ≡ heard_by t (length now) (news_of m) (track_in d.sheet.tracks.by_thread t)
-      tracks t = c.tracks t ∙ ap (λ (n : ℕ). heard_by t n (news_of m) (track_in d.sheet.tracks.by_thread t)) f.count
+      tracks : (t : ℕ) → track_in new.tracks.by_thread t ≡ heard_by t (length now) (thread_event_of m) (track_in d.sheet.tracks.by_thread t)
+      tracks t = c.tracks t ∙ ap (λ (n : ℕ). heard_by t n (thread_event_of m) (track_in d.sheet.tracks.by_thread t)) f.count

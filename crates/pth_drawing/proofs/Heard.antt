@@ -10,14 +10,14 @@ use Rattle.pth_laws.specs.Marks.{is_end_of, is_cancellation_of}
 use Rattle.pth_drawing.specs.declared.chart.Shown.{Shown}
 use Rattle.pth_drawing.specs.declared.chart.Shown.TheVariants as shown
 use Rattle.pth_drawing.specs.declared.chart.Stretch.{Stretch}
-use Rattle.pth_drawing.specs.declared.news.Event.{Event}
-use Rattle.pth_drawing.specs.declared.news.Event.TheVariants as event
-use Rattle.pth_drawing.specs.declared.news.News.{News}
+use Rattle.pth_drawing.specs.declared.thread_event.Event.{Event}
+use Rattle.pth_drawing.specs.declared.thread_event.Event.TheVariants as event
+use Rattle.pth_drawing.specs.declared.thread_event.ThreadEvent.{ThreadEvent}
 use Rattle.pth_drawing.specs.Drawing.{places, row_of, stretches_of, is_canceled_in, ends_in}
 use Rattle.pth_drawing.specs.Follow.{Knows, HasLane}
 use Rattle.pth_drawing.specs.States.{Turn, shown_in, shown_as, has_ended, is_waiting, Running, Over, Absent, Waiting, Ready}
 use Rattle.pth_transcript.specs.Threads.{is_there}
-use Rattle.pth_drawing.specs.Tracks.{TrackSeen, news_of, after, last_of, with_place, first_of, settled, shown_idle, up_to, with_columns, run}
+use Rattle.pth_drawing.specs.Tracks.{TrackSeen, thread_event_of, after, last_of, with_place, first_of, settled, shown_idle, up_to, with_columns, run}
 use Rattle.pth_drawing.proofs.DrawnTurns.{length_heard}
 use Rattle.pth_drawing.proofs.PlacesOf.{NotesIn, places_heard, first_heard, places_more}
 use Rattle.pth_drawing.proofs.Standing.{heard_by, canceled_after, first_after}
@@ -50,29 +50,29 @@ since_after event.Woke n x h = omega arith
 since_after event.Canceled n x h = h
 since_after event.Ended n x h = omega arith
 
-settled_heard : (t n : ℕ) (o : Option News) (x : TrackSeen) → settled n (heard_by t n o x) ≡ settled n x
+settled_heard : (t n : ℕ) (o : Option ThreadEvent) (x : TrackSeen) → settled n (heard_by t n o x) ≡ settled n x
 settled_heard t n None x = refl
-settled_heard t n (Some news) x = by (news.thread == t)
+settled_heard t n (Some thread_event) x = by (thread_event.thread == t)
   where
-    by : (b : Bool) → settled n (if b then after news.event n x else x) ≡ settled n x
-    by true = settled_after news.event n x
+    by : (b : Bool) → settled n (if b then after thread_event.event n x else x) ≡ settled n x
+    by true = settled_after thread_event.event n x
     by false = refl
 
-since_heard : (t n : ℕ) (o : Option News) (x : TrackSeen) → x.since ≤ n → (heard_by t n o x).since ≤ n
+since_heard : (t n : ℕ) (o : Option ThreadEvent) (x : TrackSeen) → x.since ≤ n → (heard_by t n o x).since ≤ n
 since_heard t n None x h = h
-since_heard t n (Some news) x h = by (news.thread == t)
+since_heard t n (Some thread_event) x h = by (thread_event.thread == t)
   where
-    by : (b : Bool) → (if b then after news.event n x else x).since ≤ n
-    by true = since_after news.event n x h
+    by : (b : Bool) → (if b then after thread_event.event n x else x).since ≤ n
+    by true = since_after thread_event.event n x h
     by false = h
 
 notes : (test : Mark → Bool) (m : Mark) → NotesIn (λ c. list_any test c.during) m (test m)
 notes test m c = list_any-append test c.during (m ∷ []) ∙ ap (λ (b : Bool). list_any test c.during || b) (or-false (test m))
 
-pub drawn_heard : (t : ℕ) (m : Mark) (columns : List Turn) (x : TrackSeen) → HasLane t columns x → HasLane t (heard m columns) (heard_by t (length columns) (news_of m) x)
+pub drawn_heard : (t : ℕ) (m : Mark) (columns : List Turn) (x : TrackSeen) → HasLane t columns x → HasLane t (heard m columns) (heard_by t (length columns) (thread_event_of m) x)
 drawn_heard t m columns x d = record {
-  stretches = ap (λ (n : ℕ). settled n (heard_by t (length columns) (news_of m) x)) (length_heard m columns) ∙ settled_heard t (length columns) (news_of m) x ∙ d.stretches ∙ ap stretches_of (sym (row_heard t m columns));
-  since = omega (arith, since_heard t (length columns) (news_of m) x d.since, length_heard m columns);
+  stretches = ap (λ (n : ℕ). settled n (heard_by t (length columns) (thread_event_of m) x)) (length_heard m columns) ∙ settled_heard t (length columns) (thread_event_of m) x ∙ d.stretches ∙ ap stretches_of (sym (row_heard t m columns));
+  since = omega (arith, since_heard t (length columns) (thread_event_of m) x d.since, length_heard m columns);
   canceled = canceled_after t (length columns) x m ∙ ap (λ is. if is_cancellation_of t m then with_place (last_of (length columns)) is else is) d.canceled ∙ places_heard (is_canceled_in t) m (is_cancellation_of t m) (notes (is_cancellation_of t) m) columns;
   ended = first_after t (length columns) x m ∙ ap (λ o. if is_end_of t m then first_of o (last_of (length columns)) else o) d.ended ∙ first_heard (ends_in t) m (is_end_of t m) (notes (is_end_of t) m) columns;
 }

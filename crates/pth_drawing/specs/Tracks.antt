@@ -12,9 +12,9 @@ use Rattle.pth_drawing.specs.declared.chart.Lane.{Lane}
 use Rattle.pth_drawing.specs.declared.chart.Shown.{Shown}
 use Rattle.pth_drawing.specs.declared.chart.Shown.TheVariants.{Running, Waiting, Ready}
 use Rattle.pth_drawing.specs.declared.chart.Stretch.{Stretch}
-use Rattle.pth_drawing.specs.declared.news.Event.{Event}
-use Rattle.pth_drawing.specs.declared.news.Event.TheVariants as event
-use Rattle.pth_drawing.specs.declared.news.News.{News}
+use Rattle.pth_drawing.specs.declared.thread_event.Event.{Event}
+use Rattle.pth_drawing.specs.declared.thread_event.Event.TheVariants as event
+use Rattle.pth_drawing.specs.declared.thread_event.ThreadEvent.{ThreadEvent}
 use Rattle.pth_drawing.specs.declared.track.Track.{Track}
 use Rattle.pth_drawing.specs.Charts.{LaneSeen, lane_seen}
 use Rattle.pth_drawing.specs.Drawing.{is_same}
@@ -22,23 +22,23 @@ use Rattle.pth_drawing.specs.Drawing.{is_same}
 -- ---- what a mark tells of a thread
 
 -- it tells this of t
-abbrev pub tells : ℕ → Event → Option News
+abbrev pub tells : ℕ → Event → Option ThreadEvent
 tells t e = Some (record { thread = t; event = e })
 
 -- a spawn is answered a number
-abbrev pub spawned : ℤ → Option News
+abbrev pub spawned : ℤ → Option ThreadEvent
 spawned (pos t) = tells t event.Spawned
 spawned (negsuc n) = None
 
 -- what it tells: nothing, if no thread begins or ceases to be there or to wait, and none is canceled
-abbrev pub news_of : Mark → Option News
-news_of (mark.Answered u (call.Spawn b v a) (Int n)) = spawned n
-news_of (mark.Waits u c) = tells u.0 event.Waits
-news_of (mark.Retakes u c) = tells u.0 event.Waits
-news_of (mark.Woke u rank) = tells u.0 event.Woke
-news_of (mark.Canceled u c) = tells u.0 event.Canceled
-news_of (mark.Ended u v) = tells u.0 event.Ended
-news_of m = None
+abbrev pub thread_event_of : Mark → Option ThreadEvent
+thread_event_of (mark.Answered u (call.Spawn b v a) (Int n)) = spawned n
+thread_event_of (mark.Waits u c) = tells u.0 event.Waits
+thread_event_of (mark.Retakes u c) = tells u.0 event.Waits
+thread_event_of (mark.Woke u rank) = tells u.0 event.Woke
+thread_event_of (mark.Canceled u c) = tells u.0 event.Canceled
+thread_event_of (mark.Ended u v) = tells u.0 event.Ended
+thread_event_of m = None
 
 -- ---- a track
 

@@ -6,8 +6,8 @@ ghost use Rattle.pth_drawing.specs.Follow.{Draws, GoesOn, IsOther, Shows};
 ghost use Rattle.pth_drawing.specs.States.{dispatched};
 
 use crate::chart::Chart;
-use crate::news::news_of;
 use crate::sheet::Sheet;
+use crate::thread_event::thread_event_of;
 use pth_base::ids::Micros;
 use pth_base::mark::Mark;
 use pth_base::memory::OutOfMemory;
@@ -90,8 +90,8 @@ impl Drawing {
         requires other { IsOther mark.now }
         ensures { OnOk result (GoesOn self.old mark.now self.new) }
     {
-        match news_of(mark) {
-            Some(news) => self.sheet.hear(news),
+        match thread_event_of(mark) {
+            Some(thread_event) => self.sheet.hear(thread_event),
             None => Ok(()),
         }
     }

@@ -7,7 +7,7 @@ ghost use Rattle.pth_drawing.specs.Follow.{AreLanesOf};
 ghost use Rattle.pth_drawing.specs.Tracks.{new_track, track_in, AreSame, ChangesAt, run, after, lanes_in, lane_in, seen_in};
 
 use crate::chart::Lane;
-use crate::news::News;
+use crate::thread_event::ThreadEvent;
 use crate::track::Track;
 use pth_base::ids::MAIN;
 use pth_base::memory::OutOfMemory;
@@ -53,11 +53,15 @@ impl Tracks {
     }
 
     /// Something happens to a thread, while there are so many columns.
-    pub(crate) fn hear(&mut self, news: News, columns: u64) -> Result<(), OutOfMemory>
-        ensures { OnOk result (ChangesAt news.thread (after news.event columns) self.old.by_thread self.new.by_thread) }
+    pub(crate) fn hear(
+        &mut self,
+        thread_event: ThreadEvent,
+        columns: u64,
+    ) -> Result<(), OutOfMemory>
+        ensures { OnOk result (ChangesAt thread_event.thread (after thread_event.event columns) self.old.by_thread self.new.by_thread) }
     {
-        self.open(news.thread)?;
-        hear_at(&mut self.by_thread, news, columns)
+        self.open(thread_event.thread)?;
+        hear_at(&mut self.by_thread, thread_event, columns)
     }
 
     /// The lanes of those that are drawn, by rising number.
@@ -97,12 +101,16 @@ fn run_at(tracks: &mut BTreeMap<u64, Track>, t: u64, columns: u64) -> Result<(),
     }
 }
 
-fn hear_at(tracks: &mut BTreeMap<u64, Track>, news: News, columns: u64) -> Result<(), OutOfMemory>
-    requires { IsSome (get nat_cmp tracks.old news.thread) }
-    ensures { OnOk result (ChangesAt news.thread (after news.event columns) tracks.old tracks.new) }
+fn hear_at(
+    tracks: &mut BTreeMap<u64, Track>,
+    thread_event: ThreadEvent,
+    columns: u64,
+) -> Result<(), OutOfMemory>
+    requires { IsSome (get nat_cmp tracks.old thread_event.thread) }
+    ensures { OnOk result (ChangesAt thread_event.thread (after thread_event.event columns) tracks.old tracks.new) }
 {
-    match tracks.get_mut(&news.thread) {
-        Some(track) => track.hear(news.event, columns),
+    match tracks.get_mut(&thread_event.thread) {
+        Some(track) => track.hear(thread_event.event, columns),
         None => Ok(()),
     }
 }

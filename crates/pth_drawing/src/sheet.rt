@@ -7,7 +7,7 @@ ghost use Rattle.pth_drawing.specs.Tracks.{new_track, track_in, ChangesAt, after
 
 use crate::chart::{Chart, Moment};
 use crate::lanes::Tracks;
-use crate::news::News;
+use crate::thread_event::ThreadEvent;
 use pth_base::ids::Micros;
 use pth_base::memory::OutOfMemory;
 use std::alloc::Global;
@@ -79,13 +79,13 @@ impl Sheet {
     }
 
     /// Something happens to a thread, in the last column if there is one.
-    pub(crate) fn hear(&mut self, news: News) -> Result<(), OutOfMemory>
-        ensures tracks { OnOk result (ChangesAt news.thread (after news.event self.old.count)
+    pub(crate) fn hear(&mut self, thread_event: ThreadEvent) -> Result<(), OutOfMemory>
+        ensures tracks { OnOk result (ChangesAt thread_event.thread (after thread_event.event self.old.count)
             self.old.tracks.by_thread self.new.tracks.by_thread) }
         ensures count { self.new.count ≡ self.old.count }
         ensures moments { self.new.moments ≡ self.old.moments }
     {
-        self.tracks.hear(news, self.count)
+        self.tracks.hear(thread_event, self.count)
     }
 
     /// The chart, with the lanes of the threads that are drawn.

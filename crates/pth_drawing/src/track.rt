@@ -5,8 +5,8 @@ ghost use Rattle.pth_drawing.specs.Charts.{lane_seen};
 ghost use Rattle.pth_drawing.specs.Tracks.{track_seen, new_track, shown_idle, settle, run, with_place, changed, after, whole_lane, lane_in, lanes_seen};
 
 use crate::chart::{Lane, Shown, Stretch};
-use crate::news::Event;
 use crate::stretches::add_columns;
+use crate::thread_event::Event;
 use pth_base::ids::MAIN;
 use pth_base::memory::OutOfMemory;
 use std::alloc::Global;

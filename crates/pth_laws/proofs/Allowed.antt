@@ -88,7 +88,7 @@ IsToTell m s = Unit {0}
 
 -- who awaits nothing takes no mutex back
 pub unawaited : {P S H : Type 0} (t m : ℕ) (s : State P S H) → s.resources.awaits t ≡ false → s.resources.awaits t ≡ true → IsTaking t m s
-unawaited t m s calm awaits = absurd (true≢false (sym awaits ∙ calm))
+unawaited t m s uncanceled awaits = absurd (true≢false (sym awaits ∙ uncanceled))
 
 -- who can take a mutex has not all levels of it, and neither has who meets a free one
 pub takes_room : (t : ℕ) (z : Mutex) → is_ok (take_answer t z) ≡ true → (levels_of t z == level_limit) ≡ false
@@ -438,15 +438,15 @@ module _ {P S H : Type 0} (f : P → Functions S H) (t : ℕ) where
   -- after its effect, by which t has a seat
   pub await_allowed : (s u : State P S H) (c m e : ℤ) (bad none free other has : Bool) → is_none (mutex s m) ≡ none → is_no_ring s (extra_ring e) ≡ bad → is_claimed_ring s (extra_ring e) ≡ has → u.control.events ≡ s.control.events → u.resources ≡ s.resources → IsFree t u → u.resources.awaits t ≡ false → (dead : Bool)
       → IsAllowed t (call.CondAwait c m e) (refused EINVAL when dead || bad otherwise by_result (λ released. refused EBUSY when has otherwise Blocks (awaits.Notice c)) (if none then Err EINVAL else if free then Err EDEADLK else if other then Err EACCES else Ok (tt {0}))) u
-  await_allowed s u c m e bad none free other has is_none_so is_ring is_has events same idle calm true = unawaited t (object_named m) u calm
-  await_allowed s u c m e true none free other has is_none_so is_ring is_has events same idle calm false = unawaited t (object_named m) u calm
-  await_allowed s u c m e false true free other has is_none_so is_ring is_has events same idle calm false = unawaited t (object_named m) u calm
-  await_allowed s u c m e false false true other has is_none_so is_ring is_has events same idle calm false = unawaited t (object_named m) u calm
-  await_allowed s u c m e false false false true has is_none_so is_ring is_has events same idle calm false = unawaited t (object_named m) u calm
-  await_allowed s u c m e false false false false true is_none_so is_ring is_has events same idle calm false = unawaited t (object_named m) u calm
-  await_allowed s u c m e false false false false false is_none_so is_ring is_has events same idle calm false =
+  await_allowed s u c m e bad none free other has is_none_so is_ring is_has events same idle uncanceled true = unawaited t (object_named m) u uncanceled
+  await_allowed s u c m e true none free other has is_none_so is_ring is_has events same idle uncanceled false = unawaited t (object_named m) u uncanceled
+  await_allowed s u c m e false true free other has is_none_so is_ring is_has events same idle uncanceled false = unawaited t (object_named m) u uncanceled
+  await_allowed s u c m e false false true other has is_none_so is_ring is_has events same idle uncanceled false = unawaited t (object_named m) u uncanceled
+  await_allowed s u c m e false false false true has is_none_so is_ring is_has events same idle uncanceled false = unawaited t (object_named m) u uncanceled
+  await_allowed s u c m e false false false false true is_none_so is_ring is_has events same idle uncanceled false = unawaited t (object_named m) u uncanceled
+  await_allowed s u c m e false false false false false is_none_so is_ring is_has events same idle uncanceled false =
       let there = ap (λ (k : Resources). is_some (k.store.mutexes (object_named m))) same ∙ not_none (mutex s m) is_none_so in
-      (idle, ring_waits t s u (call.CondAwait c m e) (awaits.Notice c) (extra_ring e) refl events is_ring is_has (inl refl) (there, calm))
+      (idle, ring_waits t s u (call.CondAwait c m e) (awaits.Notice c) (extra_ring e) refl events is_ring is_has (inl refl) (there, uncanceled))
 
   seats_unless : (b : Bool) (g : ConditionTable → ConditionTable) (s : State P S H) → let u = (unless_refused b (changes (with_conditions g)) s).state in (u.control.events ≡ s.control.events) × (u.resources ≡ s.resources)
   seats_unless true g s = (refl, refl)
@@ -460,30 +460,30 @@ module _ {P S H : Type 0} (f : P → Functions S H) (t : ℕ) where
 
   pub allowed : (s : State P S H) (c : Call) → IsFree t s → s.resources.awaits t ≡ false → is_made s.control.threads.made t ≡ true → IsAllowed t c (row_of f s t c).begin.verdict (effect_of (row_of f s t c).begin s).state
   unfolding row_of
-  allowed s call.Kill free calm made = allowed_at_once t call.Kill (row_of f s t call.Kill).begin.verdict (effect_of (row_of f s t call.Kill).begin s).state refl (when_answers EPERM (not (t == main)) Kills refl)
-  allowed s (call.Yield n) free calm made = allowed_at_once t (call.Yield n) (row_of f s t (call.Yield n)).begin.verdict (effect_of (row_of f s t (call.Yield n)).begin s).state refl (when_answers EINVAL _ (Yields (answer.Int (pos 1))) refl)
-  allowed s (call.Cancel n) free calm made = allowed_at_once t (call.Cancel n) (row_of f s t (call.Cancel n)).begin.verdict (effect_of (row_of f s t (call.Cancel n)).begin s).state refl (asking_answers (n is t) (not (is_known s.control n)) (n is main || is_dead (or_nobody (thread s.control n)).state))
-  allowed s (call.Abort n) free calm made = allowed_at_once t (call.Abort n) (row_of f s t (call.Abort n)).begin.verdict (effect_of (row_of f s t (call.Abort n)).begin s).state refl (asking_answers (n is t) (not (is_known s.control n)) (n is main))
-  allowed s (call.Wait e) free calm made =
+  allowed s call.Kill free uncanceled made = allowed_at_once t call.Kill (row_of f s t call.Kill).begin.verdict (effect_of (row_of f s t call.Kill).begin s).state refl (when_answers EPERM (not (t == main)) Kills refl)
+  allowed s (call.Yield n) free uncanceled made = allowed_at_once t (call.Yield n) (row_of f s t (call.Yield n)).begin.verdict (effect_of (row_of f s t (call.Yield n)).begin s).state refl (when_answers EINVAL _ (Yields (answer.Int (pos 1))) refl)
+  allowed s (call.Cancel n) free uncanceled made = allowed_at_once t (call.Cancel n) (row_of f s t (call.Cancel n)).begin.verdict (effect_of (row_of f s t (call.Cancel n)).begin s).state refl (asking_answers (n is t) (not (is_known s.control n)) (n is main || is_dead (or_nobody (thread s.control n)).state))
+  allowed s (call.Abort n) free uncanceled made = allowed_at_once t (call.Abort n) (row_of f s t (call.Abort n)).begin.verdict (effect_of (row_of f s t (call.Abort n)).begin s).state refl (asking_answers (n is t) (not (is_known s.control n)) (n is main))
+  allowed s (call.Wait e) free uncanceled made =
       let v = (row_of f s t (call.Wait e)).begin.verdict in
       subst (IsAllowed t (call.Wait e) v) (sym (silent_unless (refuses v) s)) (wait_allowed s e (ring_refusal s.control.events (number e)) refl free)
-  allowed s (call.ReadEv d n e) free calm made = tries_allowed s (call.ReadEv d n e) (extra_ring e) false (at_once s d) (awaits.Reading d n) refl refl (free_after s (call.ReadEv d n e) refl free) (λ a k. (tt, tt))
-  allowed s (call.WriteEv d bytes e) free calm made = tries_allowed s (call.WriteEv d bytes e) (extra_ring e) false (at_once s d) (awaits.Writing d (length bytes) 0) refl refl (free_after s (call.WriteEv d bytes e) refl free) (λ a k. (tt, tt))
-  allowed s (call.AcceptEv d e) free calm made = tries_allowed s (call.AcceptEv d e) (extra_ring e) false (at_once s d) (awaits.Connection d) refl refl (free_after s (call.AcceptEv d e) refl free) (λ a k. (tt, tt))
-  allowed s (call.ConnectEv d e) free calm made = tries_allowed s (call.ConnectEv d e) (extra_ring e) false (at_once s d) (awaits.ConnectAnswer d) refl refl (free_after s (call.ConnectEv d e) refl free) (λ a k. (tt, tt))
-  allowed s (call.SelectEv r w x l e) free calm made = tries_allowed s (call.SelectEv r w x l e) (extra_ring e) (is_refused_length s r w x l) false (awaits.Selection r w x (select_deadline s l)) refl refl (free_after s (call.SelectEv r w x l e) refl free) (λ a k. (tt, tt))
-  allowed s (call.MutexAcquire m v e) free calm made =
+  allowed s (call.ReadEv d n e) free uncanceled made = tries_allowed s (call.ReadEv d n e) (extra_ring e) false (at_once s d) (awaits.Reading d n) refl refl (free_after s (call.ReadEv d n e) refl free) (λ a k. (tt, tt))
+  allowed s (call.WriteEv d bytes e) free uncanceled made = tries_allowed s (call.WriteEv d bytes e) (extra_ring e) false (at_once s d) (awaits.Writing d (length bytes) 0) refl refl (free_after s (call.WriteEv d bytes e) refl free) (λ a k. (tt, tt))
+  allowed s (call.AcceptEv d e) free uncanceled made = tries_allowed s (call.AcceptEv d e) (extra_ring e) false (at_once s d) (awaits.Connection d) refl refl (free_after s (call.AcceptEv d e) refl free) (λ a k. (tt, tt))
+  allowed s (call.ConnectEv d e) free uncanceled made = tries_allowed s (call.ConnectEv d e) (extra_ring e) false (at_once s d) (awaits.ConnectAnswer d) refl refl (free_after s (call.ConnectEv d e) refl free) (λ a k. (tt, tt))
+  allowed s (call.SelectEv r w x l e) free uncanceled made = tries_allowed s (call.SelectEv r w x l e) (extra_ring e) (is_refused_length s r w x l) false (awaits.Selection r w x (select_deadline s l)) refl refl (free_after s (call.SelectEv r w x l e) refl free) (λ a k. (tt, tt))
+  allowed s (call.MutexAcquire m v e) free uncanceled made =
       let verdict = (row_of f s t (call.MutexAcquire m v e)).begin.verdict in
       subst (IsAllowed t (call.MutexAcquire m v e) verdict) (sym (silent_unless (refuses verdict) s)) (acquire_allowed s m v e (is_no_ring s (extra_ring e)) (is_none (mutex s m)) _ _ _ (is_claimed_ring s (extra_ring e)) refl refl refl refl free)
-  allowed s (call.RwAcquire l write v e) free calm made =
+  allowed s (call.RwAcquire l write v e) free uncanceled made =
       let verdict = (row_of f s t (call.RwAcquire l write v e)).begin.verdict in
       subst (IsAllowed t (call.RwAcquire l write v e) verdict) (sym (silent_unless (refuses verdict) s)) (enter_allowed s l write v e (is_no_ring s (extra_ring e)) (is_lock s l) (holds s.resources.store.rw_locks t (object_named l)) (lets_in s write l) _ (is_claimed_ring s (extra_ring e)) refl refl refl refl refl free made)
-  allowed s (call.CondAwait c m e) free calm made =
+  allowed s (call.CondAwait c m e) free uncanceled made =
       let row = (row_of f s t (call.CondAwait c m e)).begin in
       let same = seats_unless (refuses row.verdict) (seat_entered c (seat_of t)) s in
-      await_allowed s (effect_of row s).state c m e (is_no_ring s (extra_ring e)) (is_none (mutex s m)) _ _ (is_claimed_ring s (extra_ring e)) refl refl refl same.0 same.1 (free_after s (call.CondAwait c m e) refl free) (ap (λ (k : Resources). k.awaits t) same.1 ∙ calm) (not (is_live s.control.conditions c))
-  allowed s (call.BarrierReach b) free calm made = reach_allowed s b (arrival_answer s.control.barriers b) (effect_of (row_of f s t (call.BarrierReach b)).begin s).state (free_after s (call.BarrierReach b) refl free)
-  allowed s c free calm made = allowed_by t c (row_of f s t c).begin.verdict (effect_of (row_of f s t c).begin s).state refl (λ a blocks. (free_after s c refl free, waits_plainly t c a (effect_of (row_of f s t c).begin s).state refl))
+      await_allowed s (effect_of row s).state c m e (is_no_ring s (extra_ring e)) (is_none (mutex s m)) _ _ (is_claimed_ring s (extra_ring e)) refl refl refl same.0 same.1 (free_after s (call.CondAwait c m e) refl free) (ap (λ (k : Resources). k.awaits t) same.1 ∙ uncanceled) (not (is_live s.control.conditions c))
+  allowed s (call.BarrierReach b) free uncanceled made = reach_allowed s b (arrival_answer s.control.barriers b) (effect_of (row_of f s t (call.BarrierReach b)).begin s).state (free_after s (call.BarrierReach b) refl free)
+  allowed s c free uncanceled made = allowed_by t c (row_of f s t c).begin.verdict (effect_of (row_of f s t c).begin s).state refl (λ a blocks. (free_after s c refl free, waits_plainly t c a (effect_of (row_of f s t c).begin s).state refl))
 
   -- ---- a call is tried again
 

@@ -767,26 +767,26 @@ module _ {P S H : Type 0} (f : P → Functions S H) (R : State P S H → Type 0)
     -- a wait at a condition begins
     await_keeps : (c m e : ℤ) (live bad none free_now other has : Bool) (s : State P S H) → is_live s.control.conditions c ≡ live → is_none (mutex s m) ≡ none → is_no_ring s (extra_ring e) ≡ bad → is_claimed_ring s (extra_ring e) ≡ has → IsFree t s → IsSound t s.control → s.resources.awaits t ≡ false → is_some (s.control.threads.progress t) ≡ true → R s
         → R (begun_as f t (call.CondAwait c m e) (refused EINVAL when not live || bad otherwise by_result (λ released. refused EBUSY when has otherwise Blocks (awaits.Notice c)) (if none then Err EINVAL else if free_now then Err EDEADLK else if other then Err EACCES else Ok (tt {0})) trying changes (with_conditions (seat_entered c (seat_of t)))) s).told.state
-    await_keeps c m e false bad none free_now other has s is_live_so is_none_so is_ring is_has free sound calm there r = kept.handlers.told (mark.Answered (tid t) (call.CondAwait c m e) (answer.Fail EINVAL)) s (unawaited t (object_named m) s calm) r
-    await_keeps c m e true true none free_now other has s is_live_so is_none_so is_ring is_has free sound calm there r = kept.handlers.told (mark.Answered (tid t) (call.CondAwait c m e) (answer.Fail EINVAL)) s (unawaited t (object_named m) s calm) r
-    await_keeps c m e true false true free_now other has s is_live_so is_none_so is_ring is_has free sound calm there r = kept.handlers.told (mark.Answered (tid t) (call.CondAwait c m e) (answer.Fail EINVAL)) s (unawaited t (object_named m) s calm) r
-    await_keeps c m e true false false true other has s is_live_so is_none_so is_ring is_has free sound calm there r = kept.handlers.told (mark.Answered (tid t) (call.CondAwait c m e) (answer.Fail EDEADLK)) s (unawaited t (object_named m) s calm) r
-    await_keeps c m e true false false false true has s is_live_so is_none_so is_ring is_has free sound calm there r = kept.handlers.told (mark.Answered (tid t) (call.CondAwait c m e) (answer.Fail EACCES)) s (unawaited t (object_named m) s calm) r
-    await_keeps c m e true false false false false true s is_live_so is_none_so is_ring is_has free sound calm there r = kept.handlers.told (mark.Answered (tid t) (call.CondAwait c m e) (answer.Fail EBUSY)) s (unawaited t (object_named m) s calm) r
-    await_keeps c m e true false false false false false s is_live_so is_none_so is_ring is_has free sound calm there r =
-        let may = await_allowed f t s s c m e false false false false false is_none_so is_ring is_has refl refl free calm false in
+    await_keeps c m e false bad none free_now other has s is_live_so is_none_so is_ring is_has free sound uncanceled there r = kept.handlers.told (mark.Answered (tid t) (call.CondAwait c m e) (answer.Fail EINVAL)) s (unawaited t (object_named m) s uncanceled) r
+    await_keeps c m e true true none free_now other has s is_live_so is_none_so is_ring is_has free sound uncanceled there r = kept.handlers.told (mark.Answered (tid t) (call.CondAwait c m e) (answer.Fail EINVAL)) s (unawaited t (object_named m) s uncanceled) r
+    await_keeps c m e true false true free_now other has s is_live_so is_none_so is_ring is_has free sound uncanceled there r = kept.handlers.told (mark.Answered (tid t) (call.CondAwait c m e) (answer.Fail EINVAL)) s (unawaited t (object_named m) s uncanceled) r
+    await_keeps c m e true false false true other has s is_live_so is_none_so is_ring is_has free sound uncanceled there r = kept.handlers.told (mark.Answered (tid t) (call.CondAwait c m e) (answer.Fail EDEADLK)) s (unawaited t (object_named m) s uncanceled) r
+    await_keeps c m e true false false false true has s is_live_so is_none_so is_ring is_has free sound uncanceled there r = kept.handlers.told (mark.Answered (tid t) (call.CondAwait c m e) (answer.Fail EACCES)) s (unawaited t (object_named m) s uncanceled) r
+    await_keeps c m e true false false false false true s is_live_so is_none_so is_ring is_has free sound uncanceled there r = kept.handlers.told (mark.Answered (tid t) (call.CondAwait c m e) (answer.Fail EBUSY)) s (unawaited t (object_named m) s uncanceled) r
+    await_keeps c m e true false false false false false s is_live_so is_none_so is_ring is_has free sound uncanceled there r =
+        let may = await_allowed f t s s c m e false false false false false is_none_so is_ring is_has refl refl free uncanceled false in
         kept.takes_seat t c m e s free sound.alive (there, is_live_so) may.1 r
 
     pub begun_keeps : (c : Call) (s : State P S H) → IsFree t s → IsSound t s.control → s.resources.awaits t ≡ false → is_some (s.control.threads.progress t) ≡ true → R s → R (begun f t c s).told.state
     unfolding begun row_of
-    begun_keeps call.Plain s free sound calm there r = r
-    begun_keeps (call.Note v) s free sound calm there r = kept.handlers.told (mark.Noted (tid t) v) s tt r
-    begun_keeps (call.BarrierReach b) s free sound calm there r = reach_keeps b (arrival_answer s.control.barriers b) s refl free sound there r
-    begun_keeps (call.CondAwait c m e) s free sound calm there r =
-        await_keeps c m e (is_live s.control.conditions c) (is_no_ring s (extra_ring e)) (is_none (mutex s m)) _ _ (is_claimed_ring s (extra_ring e)) s refl refl refl refl free sound calm there r
-    begun_keeps c s free sound calm there r =
+    begun_keeps call.Plain s free sound uncanceled there r = r
+    begun_keeps (call.Note v) s free sound uncanceled there r = kept.handlers.told (mark.Noted (tid t) v) s tt r
+    begun_keeps (call.BarrierReach b) s free sound uncanceled there r = reach_keeps b (arrival_answer s.control.barriers b) s refl free sound there r
+    begun_keeps (call.CondAwait c m e) s free sound uncanceled there r =
+        await_keeps c m e (is_live s.control.conditions c) (is_no_ring s (extra_ring e)) (is_none (mutex s m)) _ _ (is_claimed_ring s (extra_ring e)) s refl refl refl refl free sound uncanceled there r
+    begun_keeps c s free sound uncanceled there r =
         let a = (row_of f s t c).begin in
-        begun_by_keeps c a.verdict (effect_of a s).state refl (begins_none true f s t c refl, begins_unnoticed f s t c refl) (allowed f t s c free calm sound.made) (λ blocks. there_still t s (effect_of a s).state (begins_still f t s c blocks) (sound.alive, there)) (unless_keeps s (refuses a.verdict) a.effect (does_keeps s c free sound refl) r)
+        begun_by_keeps c a.verdict (effect_of a s).state refl (begins_none true f s t c refl, begins_unnoticed f s t c refl) (allowed f t s c free uncanceled sound.made) (λ blocks. there_still t s (effect_of a s).state (begins_still f t s c blocks) (sound.alive, there)) (unless_keeps s (refuses a.verdict) a.effect (does_keeps s c free sound refl) r)
 
     -- ---- a call is tried again
 
@@ -959,13 +959,13 @@ module _ {P S H : Type 0} (f : P → Functions S H) (R : State P S H → Type 0)
     stepped_there g s p at = ap is_some (put_here s.control.threads.progress t (option_map g (s.control.threads.progress t)) ∙ ap (option_map g) at)
 
     steps_by_keeps : (b : Option Blocked) (o : Option (Progress S)) (s : State P S H) → blocked_of s.control t ≡ b → s.control.threads.progress t ≡ o → IsSound t s.control → s.resources.awaits t ≡ is_awaiting b → R s → R (steps_by f t b o s).told.state
-    steps_by_keeps (Some b) o s is_blocked at sound calm r = gone_on_keeps s sound r
-    steps_by_keeps None None s is_blocked at sound calm r = gone_on_keeps s sound r
-    steps_by_keeps None (Some p) s is_blocked at sound calm r =
+    steps_by_keeps (Some b) o s is_blocked at sound uncanceled r = gone_on_keeps s sound r
+    steps_by_keeps None None s is_blocked at sound uncanceled r = gone_on_keeps s sound r
+    steps_by_keeps None (Some p) s is_blocked at sound uncanceled r =
         let x = (f s.control.program).step p.state s.control.shared p.owed in
         let g : Progress S → Progress S = λ y. record y { state = x.state; owed = answer.None } in
         let a = controlled (shares x.shared) s in
-        begun_keeps x.call (controlled (goes_on t g) a) (stepped_free g a p at (sym (ap blocked_in at) ∙ is_blocked)) (sound_steps t t g x.shared s.control (λ y. refl) sound) calm (stepped_there g a p at) (kept.goes t g a (λ y. refl) (kept.handlers.shared x.shared s r))
+        begun_keeps x.call (controlled (goes_on t g) a) (stepped_free g a p at (sym (ap blocked_in at) ∙ is_blocked)) (sound_steps t t g x.shared s.control (λ y. refl) sound) uncanceled (stepped_there g a p at) (kept.goes t g a (λ y. refl) (kept.handlers.shared x.shared s r))
 
     owes_keeps : (n : Next) → Stays (owes_after t n)
     owes_keeps (next.Done a) s r = kept.goes t (owing a) s (λ p. refl) r
@@ -976,9 +976,9 @@ module _ {P S H : Type 0} (f : P → Functions S H) (R : State P S H → Type 0)
 
     step_keeps : (x : Turn) (s : State P S H) → IsSound t s.control → AwaitsAsBlocked t s → R s → R (steps f x t s).state
     unfolding steps
-    step_keeps x s sound calm r =
+    step_keeps x s sound uncanceled r =
         let w = steps_on f t s in
-        owes_keeps w.next w.told.state (steps_by_keeps (blocked_of s.control t) (s.control.threads.progress t) s refl refl sound calm r)
+        owes_keeps w.next w.told.state (steps_by_keeps (blocked_of s.control t) (s.control.threads.progress t) s refl refl sound uncanceled r)
 
   -- ---- the other parts
 

@@ -56,7 +56,7 @@ flags_past t b o = record { awaits = o; ended = put b.ended t true; canceled = b
 -- mutex back for that, unless it has ended. Only a pth_cond_await takes a mutex back.
 pub record Tells (w : Flags) (u : ℕ) (b : Option Blocked) : Type 0 where
   pub fits : w.awaits u ≡ is_awaiting b
-  pub calm : w.ended u ≡ false → w.canceled u ≡ is_canceled_in b
+  pub uncanceled : w.ended u ≡ false → w.canceled u ≡ is_canceled_in b
   pub retakes : is_retaking (awaits_in b) ≡ true → is_awaiting b ≡ true
 
 -- they tell the same of u
@@ -70,7 +70,7 @@ abbrev pub AreSameBut : ℕ → Flags → Flags → Type 0
 AreSameBut t v w = (u : ℕ) → u ≢ t → AreSame v w u
 
 tells_as : (v w : Flags) (u : ℕ) (b : Option Blocked) → AreSame v w u → Tells w u b → Tells v u b
-tells_as v w u b same h = record { fits = same.awaits ∙ h.fits; calm = λ up. same.canceled ∙ h.calm (sym same.ended ∙ up); retakes = h.retakes }
+tells_as v w u b same h = record { fits = same.awaits ∙ h.fits; uncanceled = λ up. same.canceled ∙ h.uncanceled (sym same.ended ∙ up); retakes = h.retakes }
 
 pub others_await : (t : ℕ) (w : Flags) (o : ℕ → Bool) → ((u : ℕ) → u ≢ t → o u ≡ w.awaits u) → AreSameBut t (record w { awaits = o }) w
 others_await t w o same u apart = record { awaits = same u apart; ended = refl; canceled = refl }
@@ -89,12 +89,12 @@ pub tells_plain : (w : Flags) (u : ℕ) (b : Option Blocked) → w.awaits u ≡ 
 tells_plain w u b none h = not_both (is_retaking (awaits_in b)) (is_awaiting b) h.retakes (sym h.fits ∙ none)
 
 -- and so was not canceled
-pub tells_calm : (w : Flags) (u : ℕ) (b : Option Blocked) → w.awaits u ≡ false → w.ended u ≡ false → Tells w u b → w.canceled u ≡ false
-tells_calm w u b none up h = h.calm up ∙ canceled_retakes (awaits_in b) (tells_plain w u b none h)
+pub tells_uncanceled : (w : Flags) (u : ℕ) (b : Option Blocked) → w.awaits u ≡ false → w.ended u ≡ false → Tells w u b → w.canceled u ≡ false
+tells_uncanceled w u b none up h = h.uncanceled up ∙ canceled_retakes (awaits_in b) (tells_plain w u b none h)
 
 -- nor is it where nothing blocks it
 tells_none : (w : Flags) (u : ℕ) (b : Option Blocked) → w.awaits u ≡ false → Tells w u b → Tells w u None
-tells_none w u b none h = record { fits = none; calm = λ up. tells_calm w u b none up h; retakes = λ e. absurd (true≢false (sym e)) }
+tells_none w u b none h = record { fits = none; uncanceled = λ up. tells_uncanceled w u b none up h; retakes = λ e. absurd (true≢false (sym e)) }
 
 -- ---- threads
 
@@ -203,7 +203,7 @@ awaits_own t w v k own alive others has u = by_same (u == t) refl
 -- t has ended, or may be canceled now
 pub awaits_past : {P S H : Type 0} (t : ℕ) (w v : Flags) (k : Control P S H) → (v.awaits t ≡ w.awaits t) × (v.ended t ≡ true) → AreSameBut t v w → HasAwaits w k → HasAwaits v k
 awaits_past t w v k own others has =
-    awaits_own t w v k (record { fits = own.0 ∙ (has t).0.fits; calm = λ up. absurd (true≢false (sym own.1 ∙ up)); retakes = (has t).0.retakes }) (λ on. (has t).1 (sym own.0 ∙ on)) others has
+    awaits_own t w v k (record { fits = own.0 ∙ (has t).0.fits; uncanceled = λ up. absurd (true≢false (sym own.1 ∙ up)); retakes = (has t).0.retakes }) (λ on. (has t).1 (sym own.0 ∙ on)) others has
 
 -- ---- another call blocks t, or none
 

@@ -150,8 +150,8 @@ module _ {P S H : Type 0} (f : P → Functions S H) where
 
   pub consistent_begun : (t : ℕ) (c : Call) (s : State P S H) → IsCaller s t → blocked_of s.control t ≡ None → AreWaitsConsistent s → AreWaitsConsistent (begun f t c s).told.state
   consistent_begun t c s caller free r =
-      let calm = subst (λ (o : Option Blocked). s.resources.awaits t ≡ is_awaiting o) free caller.awaits in
-      consistent (begun f t c s).told.state (begun_keeps f AreKept steps_kept t c s free (sound_caller t s caller) calm caller.there (kept_of s r))
+      let uncanceled = subst (λ (o : Option Blocked). s.resources.awaits t ≡ is_awaiting o) free caller.awaits in
+      consistent (begun f t c s).told.state (begun_keeps f AreKept steps_kept t c s free (sound_caller t s caller) uncanceled caller.there (kept_of s r))
 
   pub consistent_gone_on : (t : ℕ) (s : State P S H) → IsCaller s t → AreWaitsConsistent s → AreWaitsConsistent (gone_on f t s).told.state
   consistent_gone_on t s caller r = consistent (gone_on f t s).told.state (gone_on_keeps f AreKept steps_kept t s (sound_caller t s caller) (kept_of s r))

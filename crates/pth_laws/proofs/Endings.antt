@@ -351,7 +351,7 @@ module _ {P S H : Type 0} (n t : ℕ) where
         let over_now : (told u.resources m).awaits t ≡ false = put_here u.resources.awaits t false in
         let await_stays : (i : ℕ) → i ≢ t → (told u.resources m).awaits i ≡ s.resources.awaits i = λ i apart. put_other u.resources.awaits t false i apart ∙ ap (λ (o : ℕ → Bool). o i) w.awaits in
         let over : Flags = flags_past t b (told u.resources m).awaits in
-        let none : Tells over t None = record { fits = over_now; calm = λ still. absurd (true≢false (sym (put_here b.ended t true) ∙ still)); retakes = λ e. absurd (true≢false (sym e)) } in
+        let none : Tells over t None = record { fits = over_now; uncanceled = λ still. absurd (true≢false (sym (put_here b.ended t true) ∙ still)); retakes = λ e. absurd (true≢false (sym e)) } in
         let awaits_now : HasAwaits over u.control = subst (HasAwaits over) (sym w.control) (awaits_stop t (flags_past t b s.resources.awaits) over handed none (others_await t (flags_past t b s.resources.awaits) over.awaits await_stays) awaits_back) in
         let law : IsMarkedWithin n c m = λ locked. (
           (

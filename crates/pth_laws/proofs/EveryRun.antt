@@ -105,7 +105,7 @@ main_stands Dead living = absurd (true≢false living)
 
 -- nothing blocks a thread, and nothing is told of it
 nothing_told : (t : ℕ) → Tells (flags empty_book (λ u. false)) t None
-nothing_told t = record { fits = refl; calm = λ up. refl; retakes = λ e. absurd (true≢false (sym e)) }
+nothing_told t = record { fits = refl; uncanceled = λ up. refl; retakes = λ e. absurd (true≢false (sym e)) }
 
 -- ---- every run
 
@@ -400,8 +400,8 @@ module _ {P S H : Type 0} (f : P → Functions S H) where
     no_hold t nothing (pos l) = nothing.locks l
     no_hold t nothing (negsuc l) = refl
 
-    calm : (t : ℕ) → Lives s t → book.canceled t ≡ is_canceled_in (blocked_of s.control t)
-    calm t alive = (settled.awaits t).0.calm (settled.living.over t ∙ (ap (λ b. is_made s.control.threads.made t && not b) alive ∙ and_false (is_made s.control.threads.made t)))
+    uncanceled : (t : ℕ) → Lives s t → book.canceled t ≡ is_canceled_in (blocked_of s.control t)
+    uncanceled t alive = (settled.awaits t).0.uncanceled (settled.living.over t ∙ (ap (λ b. is_made s.control.threads.made t && not b) alive ∙ and_false (is_made s.control.threads.made t)))
       where
         and_false : (b : Bool) → (b && false) ≡ false
         and_false true = refl
@@ -411,7 +411,7 @@ module _ {P S H : Type 0} (f : P → Functions S H) where
     run_tied = record {
       unmade = unmade g i on;
       ended = λ t there. sym (ended_told marks t none) ∙ (settled.living.over t ∙ ap (λ b. b && not (lives (s.control.threads.known t))) there);
-      canceled = λ t alive. sym (canceled_is marks t) ∙ calm t alive;
+      canceled = λ t alive. sym (canceled_is marks t) ∙ uncanceled t alive;
       closed = λ t. closed_along t empty_book marks settled.closed;
       cleanups = λ t. sym (pending_are marks none t) ∙ ap (λ (k : Resources). k.store.cleanups t) same;
       keys = keys_in;

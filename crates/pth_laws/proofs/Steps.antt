@@ -68,7 +68,7 @@ use Rattle.pth_laws.specs.Clean.{event_held}
 use Rattle.pth_model.proofs.NoRounds.{begins_plainly, again_plainly}
 use Rattle.pth_laws.proofs.Living.{Living, run_queue, IsToRun, request_state, living-up, living-made}
 use Rattle.pth_laws.proofs.Going.{IsGoing, Going, going_alive, going_set, going_removed, known_lives, set_lives}
-use Rattle.pth_laws.proofs.Awaits.{HasAwaits, Tells, AreSameBut, flags, flags_past, others_await, canceled_retakes, tells_plain, tells_calm, kills, awaits_own, awaits_past, awaits_as, awaits_none, awaits_set, awaits_removed, awaits_go, awaits_begun, awaits_block, awaits_stop, answer_awaits, wait_awaits, refusal_awaits}
+use Rattle.pth_laws.proofs.Awaits.{HasAwaits, Tells, AreSameBut, flags, flags_past, others_await, canceled_retakes, tells_plain, tells_uncanceled, kills, awaits_own, awaits_past, awaits_as, awaits_none, awaits_set, awaits_removed, awaits_go, awaits_begun, awaits_block, awaits_stop, answer_awaits, wait_awaits, refusal_awaits}
 use Rattle.pth_laws.proofs.Locking.{IsVerdictExclusive, IsWaitExclusive, wait_exclusive, begins_exclusive, again_exclusive, may_take}
 use Rattle.pth_laws.proofs.Claims.{HasClaims, Holding, holding_kept, claims_go, claims_set, claims_removed, claims_block, claims_still, claims_wait_on, claims_stop, stopped_progress}
 use Rattle.pth_laws.proofs.Walk.{Walk, IsMarkedWithin, walk_tells, walk_then, walk_to, walk_finally}
@@ -269,8 +269,8 @@ module _ {P S H : Type 0} (f : P → Functions S H) (n t : ℕ) (made : is_made 
   within_up o c u w = living-up n c.ended u.control.threads.made u.control.threads.known u.control.threads.standing w.going.living t (going_alive n c.ended t u.control w.going)
 
   -- who awaits nothing was not canceled
-  within_calm : (o : ℕ → Bool) (c : Book) (u : State P S H) → o t ≡ false → IsWithin n t c o u → c.canceled t ≡ false
-  within_calm o c u idle w = tells_calm (flags c o) t (blocked_of u.control t) idle (within_up o c u w) (w.fits t).0
+  within_uncanceled : (o : ℕ → Bool) (c : Book) (u : State P S H) → o t ≡ false → IsWithin n t c o u → c.canceled t ≡ false
+  within_uncanceled o c u idle w = tells_uncanceled (flags c o) t (blocked_of u.control t) idle (within_up o c u w) (w.fits t).0
 
   leaving : (o : ℕ → Bool) (c : Book) (u : State P S H) → IsWithin n t c o u → IsLeaving n t c o u
   leaving o c u w = record {
@@ -309,17 +309,17 @@ module _ {P S H : Type 0} (f : P → Functions S H) (n t : ℕ) (made : is_made 
 
   answer_walk : (x : Next) (k : Call) (a : Answer) (c : Book) (u : State P S H) → ended_after c.ended (mark.Answered (tid t) k a) ≡ c.ended → IsPopOrderly c t k a → IsAnswerExclusive c.resources t k a → ((d : Book) (v : State P S H) → d.block ≡ Closed → Within d v → After x d v) → c.canceled t ≡ false → Telling (mark.Answered (tid t) k a) c u
       → Walk n c (After x) (tells (mark.Answered (tid t) k a) u)
-  answer_walk x k a c u goes pop exclusive leaves calm w =
+  answer_walk x k a c u goes pop exclusive leaves uncanceled w =
       let m = mark.Answered (tid t) k a in
       let o = (told u.resources m).awaits in
-      walk_tells n (After x) c m u (λ locked. (((within_up o c u w, (calm, pop)), exclusive), made)) (leaves (after c m) (tells m u).state refl (told_within m c u goes refl w))
+      walk_tells n (After x) c m u (λ locked. (((within_up o c u w, (uncanceled, pop)), exclusive), made)) (leaves (after c m) (tells m u).state refl (told_within m c u goes refl w))
 
   wait_walk : (k : Call) (c : Book) (u : State P S H) → IsWaitExclusive c.resources t k → c.canceled t ≡ false → Telling (mark.Waits (tid t) k) c u → Walk n c (After next.Waits) (tells (mark.Waits (tid t) k) u)
-  wait_walk k c u exclusive calm w =
+  wait_walk k c u exclusive uncanceled w =
       let m = mark.Waits (tid t) k in
       let o = (told u.resources m).awaits in
       let v = told_within m c u refl refl w in
-      walk_tells n (After next.Waits) c m u (λ locked. (((within_up o c u w, calm), wait_exclusive c t k exclusive), made)) (within_stepped next.Waits (after c m) (tells m u).state refl (left_running (after c m) (tells m u).state v) tt v)
+      walk_tells n (After next.Waits) c m u (λ locked. (((within_up o c u w, uncanceled), wait_exclusive c t k exclusive), made)) (within_stepped next.Waits (after c m) (tells m u).state refl (left_running (after c m) (tells m u).state v) tt v)
 
   -- a change that keeps t going
   change_within : (g : Change P S H) (o : ℕ → Bool) (c : Book) (u : State P S H) → Going n c.ended t (g u.control) → HasClaims (g u.control) → HasAwaits (flags c o) (g u.control) → Within c u → IsWithin n t c o (controlled g u)
@@ -384,7 +384,7 @@ module _ {P S H : Type 0} (f : P → Functions S H) (n t : ℕ) (made : is_made 
       (ending_walk n t f v c u (going_alive n c.ended t u.control w.going) w.going.living w.claims w.fits made value w.resources fresh)
 
   end_walk : (v : ℤ) (c : Book) (u : State P S H) → ran_by c.block t ≡ ran_nothing → u.resources.awaits t ≡ false → Within c u → Walk n c (After (next.Ended v)) (ending f t v u)
-  end_walk v c u fresh idle w = last_walk v c u fresh (λ h. absurd (true≢false (sym h ∙ within_calm u.resources.awaits c u idle w))) (leaving u.resources.awaits c u w)
+  end_walk v c u fresh idle w = last_walk v c u fresh (λ h. absurd (true≢false (sym h ∙ within_uncanceled u.resources.awaits c u idle w))) (leaving u.resources.awaits c u w)
 
   -- t takes a request up in a call
   requested : (c : Book) (u : State P S H) (k : Option Call) → Within c u → IsLeaving n t (after c (mark.Canceled (tid t) k)) u.resources.awaits (controlled (sets t (change.Request false)) u)
@@ -471,22 +471,22 @@ module _ {P S H : Type 0} (f : P → Functions S H) (n t : ℕ) (made : is_made 
       let idle = idle_in c u p on free w in
       let tells = wait_awaits u.resources t k (λ awaits. absurd (true≢false (sym awaits ∙ idle))) in
       let o = (wait_told u.resources t k).awaits in
-      let own : Tells (flags c o) t (Some (record { call = k; awaits = y })) = record { fits = tells.0; calm = λ up. within_calm u.resources.awaits c u idle w ∙ sym (canceled_retakes y plain); retakes = λ e. absurd (true≢false (sym e ∙ plain)) } in
+      let own : Tells (flags c o) t (Some (record { call = k; awaits = y })) = record { fits = tells.0; uncanceled = λ up. within_uncanceled u.resources.awaits c u idle w ∙ sym (canceled_retakes y plain); retakes = λ e. absurd (true≢false (sym e ∙ plain)) } in
       change_within (λ j. blocks t k y (claims t (ring_given k) j)) o c u (going_blocks c.ended k y u w.going) (claims_block t k y u.control p on free alive plain w.claims)
       (awaits_begun t (flags c u.resources.awaits) (flags c o) k y (ring_given k) u.control p on own alive (others_await t (flags c u.resources.awaits) o tells.1) w.fits) w
 
   -- as the verdict says, of a quiet call
   verdict_walk : (k : Call) (v : Verdict) (p : Progress S) (c : Book) (s : State P S H) → is_quiet k ≡ true → kills k ≡ false → IsVerdictExclusive c.resources t k v → ((y : Awaits) → v ≡ Blocks y → is_retaking y ≡ false) → c.block ≡ Closed → s.control.threads.progress t ≡ Some p → p.blocked ≡ None → Within c s → Walk n c (After (begun_by f t k v s).next) (begun_by f t k v s).told
-  verdict_walk k (Says x) p c s quiet goes exclusive plain closed on free w = answer_walk (next.Done x) k x c s (on_goes c.ended k x goes) (no_pop c t k x quiet) exclusive (λ e u. done_stepped x e u) (within_calm s.resources.awaits c s (idle_in c s p on free w) w) (answering k x c s goes (idle_in c s p on free w) w)
-  verdict_walk k (Yields x) p c s quiet goes exclusive plain closed on free w = answer_walk (next.Yields x) k x c s (on_goes c.ended k x goes) (no_pop c t k x quiet) exclusive (λ e u. yields_stepped x e u) (within_calm s.resources.awaits c s (idle_in c s p on free w) w) (answering k x c s goes (idle_in c s p on free w) w)
+  verdict_walk k (Says x) p c s quiet goes exclusive plain closed on free w = answer_walk (next.Done x) k x c s (on_goes c.ended k x goes) (no_pop c t k x quiet) exclusive (λ e u. done_stepped x e u) (within_uncanceled s.resources.awaits c s (idle_in c s p on free w) w) (answering k x c s goes (idle_in c s p on free w) w)
+  verdict_walk k (Yields x) p c s quiet goes exclusive plain closed on free w = answer_walk (next.Yields x) k x c s (on_goes c.ended k x goes) (no_pop c t k x quiet) exclusive (λ e u. yields_stepped x e u) (within_uncanceled s.resources.awaits c s (idle_in c s p on free w) w) (answering k x c s goes (idle_in c s p on free w) w)
   verdict_walk k (Blocks y) p c s quiet goes exclusive plain closed on free w =
       let g : Change P S H = λ j. blocks t k y (claims t (ring_given k) j) in
-      let x = wait_walk k c (controlled g s) exclusive (within_calm s.resources.awaits c s (idle_in c s p on free w) w) (blocks_telling k y p c s on free (plain y refl) w) in
+      let x = wait_walk k c (controlled g s) exclusive (within_uncanceled s.resources.awaits c s (idle_in c s p on free w) w) (blocks_telling k y p c s on free (plain y refl) w) in
       record { law = x.law; post = x.post }
   verdict_walk k (Ends v) p c s quiet goes exclusive plain closed on free w = end_walk v c s (fresh_by t c.block closed) (idle_in c s p on free w) w
   verdict_walk k Kills p c s quiet goes exclusive plain closed on free w =
       let a = answer.Int (pos 1) in
-      answer_walk next.Killed k a c s (on_goes c.ended k a goes) (no_pop c t k a quiet) exclusive (λ e u closed within. tt) (within_calm s.resources.awaits c s (idle_in c s p on free w) w) (answering k a c s goes (idle_in c s p on free w) w)
+      answer_walk next.Killed k a c s (on_goes c.ended k a goes) (no_pop c t k a quiet) exclusive (λ e u closed within. tt) (within_uncanceled s.resources.awaits c s (idle_in c s p on free w) w) (answering k a c s goes (idle_in c s p on free w) w)
 
   not_killing : (k : Call) → is_common k ≡ true → kills k ≡ false
   not_killing call.Kill common = absurd (true≢false (sym common))
@@ -504,8 +504,8 @@ module _ {P S H : Type 0} (f : P → Functions S H) (n t : ℕ) (made : is_made 
 
   -- pth_kill
   kill_walk : (refuse : Bool) (c : Book) (s : State P S H) → s.resources.awaits t ≡ false → Within c s → let r = begun_as f t call.Kill (refused EPERM when refuse otherwise Kills trying changes (vanish_all_but t)) s in Walk n c (After r.next) r.told
-  kill_walk true c s idle w = answer_walk (next.Done (answer.Fail EPERM)) call.Kill (answer.Fail EPERM) c s refl tt tt (λ e u. done_stepped (answer.Fail EPERM) e u) (within_calm s.resources.awaits c s idle w) (refusing EPERM c s w)
-  kill_walk false c s idle w = record { law = ((λ locked. (((within_up s.resources.awaits c s w, (within_calm s.resources.awaits c s idle w, tt)), tt), made)), tt); post = tt }
+  kill_walk true c s idle w = answer_walk (next.Done (answer.Fail EPERM)) call.Kill (answer.Fail EPERM) c s refl tt tt (λ e u. done_stepped (answer.Fail EPERM) e u) (within_uncanceled s.resources.awaits c s idle w) (refusing EPERM c s w)
+  kill_walk false c s idle w = record { law = ((λ locked. (((within_up s.resources.awaits c s w, (within_uncanceled s.resources.awaits c s idle w, tt)), tt), made)), tt); post = tt }
 
   -- pth_yield: who is named waits to run
   named_runs : (m : ℤ) (s : State P S H) → IsToRun (thread s.control m) → IsToRun (s.control.threads.known (number m))
@@ -514,12 +514,12 @@ module _ {P S H : Type 0} (f : P → Functions S H) (n t : ℕ) (made : is_made 
 
   yields_walk : (m : ℤ) (zero : Bool) (c : Book) (s : State P S H) → (zero ≡ false → IsToRun (s.control.threads.known (number m))) → s.resources.awaits t ≡ false → Within c s → Walk n c (After (next.Yields (answer.Int (pos 1)))) ((changes (if zero then nothing else prefers (Some (number m))) and_then tells (mark.Answered (tid t) (call.Yield m) (answer.Int (pos 1)))) s)
   yields_walk m true c s runs idle w =
-      let x = answer_walk (next.Yields (answer.Int (pos 1))) (call.Yield m) (answer.Int (pos 1)) c s refl tt tt (λ e u. yields_stepped (answer.Int (pos 1)) e u) (within_calm s.resources.awaits c s idle w) (answering (call.Yield m) (answer.Int (pos 1)) c s refl idle w) in
+      let x = answer_walk (next.Yields (answer.Int (pos 1))) (call.Yield m) (answer.Int (pos 1)) c s refl tt tt (λ e u. yields_stepped (answer.Int (pos 1)) e u) (within_uncanceled s.resources.awaits c s idle w) (answering (call.Yield m) (answer.Int (pos 1)) c s refl idle w) in
       record { law = x.law; post = x.post }
   yields_walk m false c s runs idle w =
       let k = mark.Answered (tid t) (call.Yield m) (answer.Int (pos 1)) in
       record {
-        law = ((λ locked. (((within_up s.resources.awaits c s w, (within_calm s.resources.awaits c s idle w, tt)), tt), made)), tt);
+        law = ((λ locked. (((within_up s.resources.awaits c s w, (within_uncanceled s.resources.awaits c s idle w, tt)), tt), made)), tt);
         post = record {
           resources = ap (λ (r : Resources). told r k) w.resources;
           closed = refl;
@@ -532,7 +532,7 @@ module _ {P S H : Type 0} (f : P → Functions S H) (n t : ℕ) (made : is_made 
       }
 
   yield_walk : (m : ℤ) (refuse : Bool) (c : Book) (s : State P S H) → (not (is_zero m) && ((or_nobody (thread s.control m)).suspended || not (may_run (or_nobody (thread s.control m)).state))) ≡ refuse → s.resources.awaits t ≡ false → Within c s → let r = begun_as f t (call.Yield m) (refused EINVAL when refuse otherwise Yields (answer.Int (pos 1)) trying changes (if is_zero m then nothing else prefers (Some (number m)))) s in Walk n c (After r.next) r.told
-  yield_walk m true c s is_refused idle w = answer_walk (next.Done (answer.Fail EINVAL)) (call.Yield m) (answer.Fail EINVAL) c s refl tt tt (λ e u. done_stepped (answer.Fail EINVAL) e u) (within_calm s.resources.awaits c s idle w) (answering (call.Yield m) (answer.Fail EINVAL) c s refl idle w)
+  yield_walk m true c s is_refused idle w = answer_walk (next.Done (answer.Fail EINVAL)) (call.Yield m) (answer.Fail EINVAL) c s refl tt tt (λ e u. done_stepped (answer.Fail EINVAL) e u) (within_uncanceled s.resources.awaits c s idle w) (answering (call.Yield m) (answer.Fail EINVAL) c s refl idle w)
   yield_walk m false c s is_refused idle w = yields_walk m (is_zero m) c s (λ other. named_runs m s (yields_to (is_zero m) (thread s.control m) other is_refused)) idle w
 
   -- a handler within a call, and the call's answer
@@ -547,7 +547,7 @@ module _ {P S H : Type 0} (f : P → Functions S H) (n t : ℕ) (made : is_made 
       answer_walk (next.Done (answer.Int (pos 1))) k (answer.Int (pos 1)) d u (on_goes d.ended k (answer.Int (pos 1)) on)
       (pops d u (ap (λ (z : BlockRun). z.handlers) x.ran ∙ ran_one (h, v)) (ap (λ (r : Resources). r.store.cleanups t) x.resources ∙ x.cleanups)) (exclusive d)
       (λ e y. done_stepped (answer.Int (pos 1)) e y)
-      (ap (λ (e : ℕ → Bool). e t) x.canceled ∙ within_calm s.resources.awaits c s idle w)
+      (ap (λ (e : ℕ → Bool). e t) x.canceled ∙ within_uncanceled s.resources.awaits c s idle w)
       (answering k (answer.Int (pos 1)) d u on (ap (λ (o : ℕ → Bool). o t) x.awaits ∙ idle) (record {
         resources = x.resources;
         going = subst (λ (e : ℕ → Bool). Going n e t u.control) (sym x.ended) (subst (Going n c.ended t) (sym x.control) w.going);
@@ -558,21 +558,21 @@ module _ {P S H : Type 0} (f : P → Functions S H) (n t : ℕ) (made : is_made 
   -- pth_cleanup_pop
   popped_walk : (v : ℤ) (run : Bool) (p : PushedHandler) (c : Book) (s : State P S H) → not (is_zero v) ≡ run → pop_answer s.resources.store.cleanups t ≡ Some p → c.block ≡ Closed → s.resources.awaits t ≡ false → Within c s → Walk n c (After (next.Done (answer.Int (pos 1)))) ((where_so run (runs_pushed f t (Some p)) and_then tells (mark.Answered (tid t) (call.CleanupPop v) (answer.Int (pos 1)))) s)
   popped_walk v false p c s runs last closed idle w =
-      let x = answer_walk (next.Done (answer.Int (pos 1))) (call.CleanupPop v) (answer.Int (pos 1)) c s refl (λ other. absurd (true≢false (sym (ap not other) ∙ runs))) tt (λ e u. done_stepped (answer.Int (pos 1)) e u) (within_calm s.resources.awaits c s idle w) (answering (call.CleanupPop v) (answer.Int (pos 1)) c s refl idle w) in
+      let x = answer_walk (next.Done (answer.Int (pos 1))) (call.CleanupPop v) (answer.Int (pos 1)) c s refl (λ other. absurd (true≢false (sym (ap not other) ∙ runs))) tt (λ e u. done_stepped (answer.Int (pos 1)) e u) (within_uncanceled s.resources.awaits c s idle w) (answering (call.CleanupPop v) (answer.Int (pos 1)) c s refl idle w) in
       record { law = x.law; post = x.post }
   popped_walk v true p c s runs last closed idle w =
       handled_call (call.CleanupPop v) p.0 p.1 c s closed
       (λ d u ran pushed other. ran_last (ran_by d.block t).handlers (d.resources.store.cleanups t) p ran (ap (λ (cs : List PushedHandler). slice_get cs 0) pushed ∙ last)) (λ d. tt) refl idle w
 
   pop_walk : (v : ℤ) (o : Option PushedHandler) (c : Book) (s : State P S H) → pop_answer s.resources.store.cleanups t ≡ o → c.block ≡ Closed → s.resources.awaits t ≡ false → Within c s → let r = begun_as f t (call.CleanupPop v) (refused EINVAL when is_none o otherwise says 1 trying where_so (not (is_zero v)) (runs_pushed f t o)) s in Walk n c (After r.next) r.told
-  pop_walk v None c s last closed idle w = answer_walk (next.Done (answer.Fail EINVAL)) (call.CleanupPop v) (answer.Fail EINVAL) c s refl tt tt (λ e u. done_stepped (answer.Fail EINVAL) e u) (within_calm s.resources.awaits c s idle w) (answering (call.CleanupPop v) (answer.Fail EINVAL) c s refl idle w)
+  pop_walk v None c s last closed idle w = answer_walk (next.Done (answer.Fail EINVAL)) (call.CleanupPop v) (answer.Fail EINVAL) c s refl tt tt (λ e u. done_stepped (answer.Fail EINVAL) e u) (within_uncanceled s.resources.awaits c s idle w) (answering (call.CleanupPop v) (answer.Fail EINVAL) c s refl idle w)
   pop_walk v (Some p) c s last closed idle w = popped_walk v (not (is_zero v)) p c s refl last closed idle w
 
   -- pth_once
   once_walk : (o h v : ℤ) (refuse run : Bool) (c : Book) (s : State P S H) → c.block ≡ Closed → s.resources.awaits t ≡ false → Within c s → let r = begun_as f t (call.Once o h v) (refused EINVAL when refuse otherwise says 1 trying where_so run (changes (uses (number o)) and_then runs_handler f t (handler h) v)) s in Walk n c (After r.next) r.told
-  once_walk o h v true run c s closed idle w = answer_walk (next.Done (answer.Fail EINVAL)) (call.Once o h v) (answer.Fail EINVAL) c s refl tt tt (λ e u. done_stepped (answer.Fail EINVAL) e u) (within_calm s.resources.awaits c s idle w) (answering (call.Once o h v) (answer.Fail EINVAL) c s refl idle w)
+  once_walk o h v true run c s closed idle w = answer_walk (next.Done (answer.Fail EINVAL)) (call.Once o h v) (answer.Fail EINVAL) c s refl tt tt (λ e u. done_stepped (answer.Fail EINVAL) e u) (within_uncanceled s.resources.awaits c s idle w) (answering (call.Once o h v) (answer.Fail EINVAL) c s refl idle w)
   once_walk o h v false false c s closed idle w =
-      let x = answer_walk (next.Done (answer.Int (pos 1))) (call.Once o h v) (answer.Int (pos 1)) c s refl tt tt (λ e u. done_stepped (answer.Int (pos 1)) e u) (within_calm s.resources.awaits c s idle w) (answering (call.Once o h v) (answer.Int (pos 1)) c s refl idle w) in
+      let x = answer_walk (next.Done (answer.Int (pos 1))) (call.Once o h v) (answer.Int (pos 1)) c s refl tt tt (λ e u. done_stepped (answer.Int (pos 1)) e u) (within_uncanceled s.resources.awaits c s idle w) (answering (call.Once o h v) (answer.Int (pos 1)) c s refl idle w) in
       record { law = x.law; post = x.post }
   once_walk o h v false true c s closed idle w =
       let x = handled_call (call.Once o h v) (handler h) v c (controlled (uses (number o)) s) closed (λ d u ran pushed. tt) (λ d. tt) refl idle (change_within (uses (number o)) s.resources.awaits c s w.going w.claims w.fits w) in
@@ -581,7 +581,7 @@ module _ {P S H : Type 0} (f : P → Functions S H) (n t : ℕ) (made : is_made 
   -- pth_cancel_point
   point_walk : (asked : Bool) (c : Book) (s : State P S H) → c.block ≡ Closed → s.resources.awaits t ≡ false → Within c s → let r = begun_as f t call.CancelPoint (Ends canceled_value when asked otherwise says 1 trying where_so asked (takes_request t call.CancelPoint)) s in Walk n c (After r.next) r.told
   point_walk false c s closed idle w =
-      let x = answer_walk (next.Done (answer.Int (pos 1))) call.CancelPoint (answer.Int (pos 1)) c s refl tt tt (λ e u. done_stepped (answer.Int (pos 1)) e u) (within_calm s.resources.awaits c s idle w) (answering call.CancelPoint (answer.Int (pos 1)) c s refl idle w) in
+      let x = answer_walk (next.Done (answer.Int (pos 1))) call.CancelPoint (answer.Int (pos 1)) c s refl tt tt (λ e u. done_stepped (answer.Int (pos 1)) e u) (within_uncanceled s.resources.awaits c s idle w) (answering call.CancelPoint (answer.Int (pos 1)) c s refl idle w) in
       record { law = x.law; post = x.post }
   point_walk true c s closed idle w =
       let x = canceled_walk call.CancelPoint c s w in
@@ -591,7 +591,7 @@ module _ {P S H : Type 0} (f : P → Functions S H) (n t : ℕ) (made : is_made 
   then_answer : (k : Call) (a : Piece P S H) (c : Book) (s : State P S H) → is_asking k ≡ true → Walk n c GoesOn (a s) → Walk n c (After (next.Done (answer.Int (pos 1)))) ((a and_then tells (mark.Answered (tid t) k (answer.Int (pos 1)))) s)
   then_answer k a c s asking w =
       walk_then n GoesOn (After (next.Done (answer.Int (pos 1)))) c a (tells (mark.Answered (tid t) k (answer.Int (pos 1)))) s w
-      (λ d h. answer_walk (next.Done (answer.Int (pos 1))) k (answer.Int (pos 1)) d (a s).state (on_goes d.ended k (answer.Int (pos 1)) (asking_on k asking)) (asking_pops t d k asking) (asking_exclusive t d k (answer.Int (pos 1)) asking) (λ e u. done_stepped (answer.Int (pos 1)) e u) (within_calm (a s).state.resources.awaits d (a s).state h.2 h.1) (answering k (answer.Int (pos 1)) d (a s).state (asking_on k asking) h.2 h.1))
+      (λ d h. answer_walk (next.Done (answer.Int (pos 1))) k (answer.Int (pos 1)) d (a s).state (on_goes d.ended k (answer.Int (pos 1)) (asking_on k asking)) (asking_pops t d k asking) (asking_exclusive t d k (answer.Int (pos 1)) asking) (λ e u. done_stepped (answer.Int (pos 1)) e u) (within_uncanceled (a s).state.resources.awaits d (a s).state h.2 h.1) (answering k (answer.Int (pos 1)) d (a s).state (asking_on k asking) h.2 h.1))
 
   -- pth_cancel, once it is not refused
   cancels_walk : (m : ℤ) (now : Bool) (c : Book) (s : State P S H) → t ≢ number m → lives (s.control.threads.known (number m)) ≡ true → is_made n (number m) ≡ true → c.block ≡ Closed → s.resources.awaits t ≡ false → Within c s → Walk n c GoesOn ((if now then canceled_by_other f (number m) else changes (sets (number m) (change.Request true))) s)
@@ -631,7 +631,7 @@ module _ {P S H : Type 0} (f : P → Functions S H) (n t : ℕ) (made : is_made 
       }
 
   refused_walk : (k : Call) (e : Errno) (c : Book) (s : State P S H) → is_asking k ≡ true → s.resources.awaits t ≡ false → Within c s → Walk n c (After (next.Done (answer.Fail e))) (tells (mark.Answered (tid t) k (answer.Fail e)) s)
-  refused_walk k e c s asking idle w = answer_walk (next.Done (answer.Fail e)) k (answer.Fail e) c s (on_goes c.ended k (answer.Fail e) (asking_on k asking)) (asking_fails t c k e asking) (asking_exclusive t c k (answer.Fail e) asking) (λ d u. done_stepped (answer.Fail e) d u) (within_calm s.resources.awaits c s idle w) (answering k (answer.Fail e) c s (asking_on k asking) idle w)
+  refused_walk k e c s asking idle w = answer_walk (next.Done (answer.Fail e)) k (answer.Fail e) c s (on_goes c.ended k (answer.Fail e) (asking_on k asking)) (asking_fails t c k e asking) (asking_exclusive t c k (answer.Fail e) asking) (λ d u. done_stepped (answer.Fail e) d u) (within_uncanceled s.resources.awaits c s idle w) (answering k (answer.Fail e) c s (asking_on k asking) idle w)
 
   -- pth_cancel
   cancel_walk : (m : ℤ) (own unknown barred : Bool) (c : Book) (s : State P S H) → (m is t) ≡ own → not (is_known s.control m) ≡ unknown → (m is main || is_dead (or_nobody (thread s.control m)).state) ≡ barred → s.control.threads.made ≡ n → c.block ≡ Closed → s.resources.awaits t ≡ false → Within c s → let r = begun_as f t (call.Cancel m) (refused EINVAL when own otherwise refused ESRCH when unknown otherwise refused EPERM when barred otherwise says 1 trying if is_asynchronous (or_nobody (thread s.control m)).cancel then canceled_by_other f (number m) else changes (sets (number m) (change.Request true))) s in Walk n c (After r.next) r.told
@@ -665,7 +665,7 @@ module _ {P S H : Type 0} (f : P → Functions S H) (n t : ℕ) (made : is_made 
   begun_walk (call.Note v) p c s born closed on free w =
       let m = mark.Noted (tid t) v in
       let o = s.resources.awaits in
-      walk_tells n (After (next.Done (answer.Int (pos 0)))) c m s (λ locked. (((within_up o c s w, within_calm o c s (idle_in c s p on free w) w), tt), made)) (done_stepped (answer.Int (pos 0)) (after c m) (tells m s).state refl (told_within m c s refl refl w))
+      walk_tells n (After (next.Done (answer.Int (pos 0)))) c m s (λ locked. (((within_up o c s w, within_uncanceled o c s (idle_in c s p on free w) w), tt), made)) (done_stepped (answer.Int (pos 0)) (after c m) (tells m s).state refl (told_within m c s refl refl w))
   begun_walk call.Kill p c s born closed on free w = kill_walk (not (t == main)) c s (idle_in c s p on free w) w
   begun_walk (call.Yield m) p c s born closed on free w = yield_walk m (not (is_zero m) && ((or_nobody (thread s.control m)).suspended || not (may_run (or_nobody (thread s.control m)).state))) c s refl (idle_in c s p on free w) w
   begun_walk (call.CleanupPop v) p c s born closed on free w = pop_walk v (last_pushed f s t) c s refl closed (idle_in c s p on free w) w
@@ -694,11 +694,11 @@ module _ {P S H : Type 0} (f : P → Functions S H) (n t : ℕ) (made : is_made 
 
   answers_walk : (x : Next) (k : Call) (a : Answer) (c : Book) (u : State P S H) → IsPopOrderly c t k a × (kills k ≡ false) → IsAnswerExclusive c.resources t k a → (u.resources.awaits t ≡ true → is_await k ≡ true) → ((d : Book) (v : State P S H) → d.block ≡ Closed → Within d v → After x d v) → c.canceled t ≡ false → Within c u → Walk n c (After x) (answers f t k a u)
   unfolding told
-  answers_walk x k a c u pop exclusive by leaves calm w =
+  answers_walk x k a c u pop exclusive by leaves uncanceled w =
       let tells = answer_awaits u.resources t k a pop.1 by in
       let o = (answer_told u.resources t k a).awaits in
-      let own : Tells (flags c o) t None = record { fits = tells.0; calm = λ up. calm; retakes = λ e. absurd (true≢false (sym e)) } in
-      let y = answer_walk x k a c (controlled (stops_waiting t) u) (on_goes c.ended k a pop.1) pop.0 exclusive leaves calm
+      let own : Tells (flags c o) t None = record { fits = tells.0; uncanceled = λ up. uncanceled; retakes = λ e. absurd (true≢false (sym e)) } in
+      let y = answer_walk x k a c (controlled (stops_waiting t) u) (on_goes c.ended k a pop.1) pop.0 exclusive leaves uncanceled
       (change_within (stops_waiting t) o c u (going_stops c.ended u w.going) (claims_stop t u.control w.claims) (awaits_stop t (flags c u.resources.awaits) (flags c o) u.control own (others_await t (flags c u.resources.awaits) o tells.1) w.fits) w) in
       record { law = y.law; post = y.post }
 
@@ -713,24 +713,24 @@ module _ {P S H : Type 0} (f : P → Functions S H) (n t : ℕ) (made : is_made 
       by : u.resources.awaits t ≡ true → is_await d.call ≡ true
       by awaits = absurd (true≢false (sym awaits ∙ idle))
 
-      calm : c.canceled t ≡ false
-      calm = within_calm u.resources.awaits c u idle w
+      uncanceled : c.canceled t ≡ false
+      uncanceled = within_uncanceled u.resources.awaits c u idle w
 
       by_verdict : (v : Verdict) → (is_blocking v ≡ false → (a : Answer) → IsPopOrderly c t d.call a × (kills d.call ≡ false)) → IsVerdictExclusive c.resources t d.call v → ((y : Awaits) → v ≡ Blocks y → is_retaking y ≡ false) → Walk n c (After (tried_by f t d v u).next) (tried_by f t d v u).told
-      by_verdict (Says a) pops exclusive plain = answers_walk (next.Done a) d.call a c u (pops refl a) exclusive by (λ e s. done_stepped a e s) calm w
-      by_verdict (Yields a) pops exclusive plain = answers_walk (next.Yields a) d.call a c u (pops refl a) exclusive by (λ e s. yields_stepped a e s) calm w
+      by_verdict (Says a) pops exclusive plain = answers_walk (next.Done a) d.call a c u (pops refl a) exclusive by (λ e s. done_stepped a e s) uncanceled w
+      by_verdict (Yields a) pops exclusive plain = answers_walk (next.Yields a) d.call a c u (pops refl a) exclusive by (λ e s. yields_stepped a e s) uncanceled w
       by_verdict (Blocks y) pops exclusive plain =
           let now : Blocked = record d { awaits = y } in
           let g : Change P S H = is_blocked_by t (Some now) in
           let tells = wait_awaits u.resources t d.call by in
           let o = (wait_told u.resources t d.call).awaits in
-          let own : Tells (flags c o) t (Some now) = record { fits = tells.0; calm = λ up. calm ∙ sym (canceled_retakes y (plain y refl)); retakes = λ e. absurd (true≢false (sym e ∙ plain y refl)) } in
-          let x = wait_walk d.call c (controlled g u) exclusive calm
+          let own : Tells (flags c o) t (Some now) = record { fits = tells.0; uncanceled = λ up. uncanceled ∙ sym (canceled_retakes y (plain y refl)); retakes = λ e. absurd (true≢false (sym e ∙ plain y refl)) } in
+          let x = wait_walk d.call c (controlled g u) exclusive uncanceled
           (change_within g o c u (going_waits_on c.ended (Some now) u w.going) (claims_wait_on t d y u.control p on blocked was (plain y refl) w.claims)
           (awaits_block t (flags c u.resources.awaits) (flags c o) (Some now) u.control p on own (λ awaiting. going_alive n c.ended t u.control w.going) (others_await t (flags c u.resources.awaits) o tells.1) w.fits) w) in
           record { law = x.law; post = x.post }
       by_verdict (Ends v) pops exclusive plain = end_walk v c u (fresh_by t c.block closed) idle w
-      by_verdict Kills pops exclusive plain = answers_walk next.Killed d.call (answer.Int (pos 1)) c u (pops refl (answer.Int (pos 1))) exclusive by (λ e s h x. tt) calm w
+      by_verdict Kills pops exclusive plain = answers_walk next.Killed d.call (answer.Int (pos 1)) c u (pops refl (answer.Int (pos 1))) exclusive by (λ e s h x. tt) uncanceled w
 
   -- a pop and a kill never wait, and would wait on
   again_pops : (s : State P S H) (d : Awaits) (c : Book) (k : Call) → is_blocking (unless_settled (has_settled s.control.events (ring_given k)) ((row_of f s t k).again d)).verdict ≡ false → (a : Answer) → IsPopOrderly c t k a × (kills k ≡ false)
@@ -793,7 +793,7 @@ module _ {P S H : Type 0} (f : P → Functions S H) (n t : ℕ) (made : is_made 
   stopped_leaving c s w =
       let past = flags_past t c s.resources.awaits in
       let now = flags_past t c (put s.resources.awaits t false) in
-      let own : Tells now t None = record { fits = put_here s.resources.awaits t false; calm = λ up. absurd (true≢false (sym (put_here c.ended t true) ∙ up)); retakes = λ e. absurd (true≢false (sym e)) } in
+      let own : Tells now t None = record { fits = put_here s.resources.awaits t false; uncanceled = λ up. absurd (true≢false (sym (put_here c.ended t true) ∙ up)); retakes = λ e. absurd (true≢false (sym e)) } in
       record {
         resources = w.resources;
         going = going_stops c.ended s w.going;
@@ -812,7 +812,7 @@ module _ {P S H : Type 0} (f : P → Functions S H) (n t : ℕ) (made : is_made 
   retaken_walk : (q m e : ℤ) (o : Retake) (c : Book) (u : State P S H) → can_take u t m ≡ true → c.canceled t ≡ is_canceled (awaits.Retaking m o) → blocked_of u.control t ≡ None → Stopped c u
       → Walk n c (After (retaken_as f t (call.CondAwait q m e) m o u).next) (retaken_as f t (call.CondAwait q m e) m o u).told
   unfolding told
-  retaken_walk q m e o c u can calm free w = by_reason o calm
+  retaken_walk q m e o c u can uncanceled free w = by_reason o uncanceled
     where
       k : Call
       k = call.CondAwait q m e
@@ -821,11 +821,11 @@ module _ {P S H : Type 0} (f : P → Functions S H) (n t : ℕ) (made : is_made 
       may = subst (λ (r : Resources). MayTake r t (object_named m)) (sym w.resources) (may_take u.resources t m can)
 
       answered : (a : Answer) → c.canceled t ≡ false → Walk n c (After (next.Done a)) (tells (mark.Answered (tid t) k a) u)
-      answered a calm =
+      answered a uncanceled =
           let tells = answer_awaits u.resources t k a refl (λ by. refl) in
           let o = (answer_told u.resources t k a).awaits in
-          let own : Tells (flags c o) t None = record { fits = tells.0; calm = λ up. calm; retakes = λ e. absurd (true≢false (sym e)) } in
-          answer_walk (next.Done a) k a c u refl tt (λ by. may) (λ d s. done_stepped a d s) calm (record {
+          let own : Tells (flags c o) t None = record { fits = tells.0; uncanceled = λ up. uncanceled; retakes = λ e. absurd (true≢false (sym e)) } in
+          answer_walk (next.Done a) k a c u refl tt (λ by. may) (λ d s. done_stepped a d s) uncanceled (record {
             resources = w.resources;
             going = w.going;
             claims = w.claims;
@@ -833,9 +833,9 @@ module _ {P S H : Type 0} (f : P → Functions S H) (n t : ℕ) (made : is_made 
           })
 
       by_reason : (o : Retake) → c.canceled t ≡ is_canceled (awaits.Retaking m o) → Walk n c (After (retaken_as f t k m o u).next) (retaken_as f t k m o u).told
-      by_reason retake.Notified calm = answered (answer.Int (pos 1)) calm
-      by_reason retake.Interrupted calm = answered (answer.Fail EINTR) calm
-      by_reason retake.Canceled calm =
+      by_reason retake.Notified uncanceled = answered (answer.Int (pos 1)) uncanceled
+      by_reason retake.Interrupted uncanceled = answered (answer.Fail EINTR) uncanceled
+      by_reason retake.Canceled uncanceled =
           let x = mark.Took (tid t) (object_named m) in
           let d = after c x in
           let y = last_walk canceled_value d (tells x u).state (fresh_by t d.block refl) (λ h. refl) (record { resources = ap (λ (r : Resources). told r x) w.resources; going = w.going; claims = w.claims; fits = w.fits }) in
@@ -845,8 +845,8 @@ module _ {P S H : Type 0} (f : P → Functions S H) (n t : ℕ) (made : is_made 
   retakes_walk : (q m e : ℤ) (o : Retake) (can : Bool) (p : Progress S) (c : Book) (u : State P S H) → can_take u t m ≡ can → c.canceled t ≡ is_canceled (awaits.Retaking m o) → u.resources.awaits t ≡ true → u.control.threads.progress t ≡ Some p → p.blocked ≡ None → Stopped c u
       → Walk n c (After (retakes_where f t can (call.CondAwait q m e) m o u).next) (retakes_where f t can (call.CondAwait q m e) m o u).told
   unfolding told
-  retakes_walk q m e o true p c u can calm awaiting on free w = retaken_walk q m e o c u can calm (ap blocked_in on ∙ free) w
-  retakes_walk q m e o false p c u can calm awaiting on free w = waits_walk
+  retakes_walk q m e o true p c u can uncanceled awaiting on free w = retaken_walk q m e o c u can uncanceled (ap blocked_in on ∙ free) w
+  retakes_walk q m e o false p c u can uncanceled awaiting on free w = waits_walk
     where
       k : Call
       k = call.CondAwait q m e
@@ -858,7 +858,7 @@ module _ {P S H : Type 0} (f : P → Functions S H) (n t : ℕ) (made : is_made 
       v = controlled (is_blocked_by t (Some now)) u
 
       own : Tells (flags c u.resources.awaits) t (Some now)
-      own = record { fits = awaiting; calm = λ up. calm; retakes = λ e. refl }
+      own = record { fits = awaiting; uncanceled = λ up. uncanceled; retakes = λ e. refl }
 
       within : IsWithin n t c u.resources.awaits v
       within = record {
@@ -878,18 +878,18 @@ module _ {P S H : Type 0} (f : P → Functions S H) (n t : ℕ) (made : is_made 
   -- the wait is over, once its seat is left
   ends_walk : (q m e : ℤ) (o : Retake) (p : Progress S) (c : Book) (s : State P S H) → c.canceled t ≡ is_canceled (awaits.Retaking m o) → s.resources.awaits t ≡ true → s.control.threads.progress t ≡ Some p → IsLeaving n t c s.resources.awaits s
       → let u = controlled (stops_waiting t) s in Walk n c (After (retakes f t (call.CondAwait q m e) m o u).next) (retakes f t (call.CondAwait q m e) m o u).told
-  ends_walk q m e o p c s calm awaiting on w =
+  ends_walk q m e o p c s uncanceled awaiting on w =
       let u = controlled (stops_waiting t) s in
-      retakes_walk q m e o (can_take u t m) (blocking None p) c u refl calm awaiting (stopped_progress t s.control p on) refl (stopped_leaving c s w)
+      retakes_walk q m e o (can_take u t m) (blocking None p) c u refl uncanceled awaiting (stopped_progress t s.control p on) refl (stopped_leaving c s w)
 
   -- t waits on
   waits_on_walk : (q m e : ℤ) (c : Book) (s : State P S H) → s.resources.awaits t ≡ true → c.canceled t ≡ false → Within c s → Walk n c (After next.Waits) (tells (mark.Waits (tid t) (call.CondAwait q m e)) s)
   unfolding told
-  waits_on_walk q m e c s awaiting calm w =
+  waits_on_walk q m e c s awaiting uncanceled w =
       let k = call.CondAwait q m e in
       let tells = wait_awaits s.resources t k (λ by. refl) in
       let o = (wait_told s.resources t k).awaits in
-      wait_walk k c s (λ idle. absurd (true≢false (sym (ap (λ (r : Resources). r.awaits t) w.resources ∙ awaiting) ∙ idle))) calm (record {
+      wait_walk k c s (λ idle. absurd (true≢false (sym (ap (λ (r : Resources). r.awaits t) w.resources ∙ awaiting) ∙ idle))) uncanceled (record {
         resources = w.resources;
         going = w.going;
         claims = w.claims;
@@ -897,7 +897,7 @@ module _ {P S H : Type 0} (f : P → Functions S H) (n t : ℕ) (made : is_made 
       })
     where
       tells_again : (c : Book) (s : State P S H) (o : ℕ → Bool) → o t ≡ s.resources.awaits t → Tells (flags c s.resources.awaits) t (blocked_of s.control t) → Tells (flags c o) t (blocked_of s.control t)
-      tells_again c s o same h = record { fits = same ∙ h.fits; calm = h.calm; retakes = h.retakes }
+      tells_again c s o same h = record { fits = same ∙ h.fits; uncanceled = h.uncanceled; retakes = h.retakes }
 
   left_leaving : (q : ℤ) (c : Book) (s : State P S H) → IsLeaving n t c s.resources.awaits s → IsLeaving n t c s.resources.awaits (controlled (leaves_seat t (awaits.Notice q)) s)
   unfolding leaves_seat
@@ -922,7 +922,7 @@ module _ {P S H : Type 0} (f : P → Functions S H) (n t : ℕ) (made : is_made 
   awaits_where_walk : (asked noticed settled : Bool) (q m e : ℤ) (p : Progress S) (c : Book) (s : State P S H) → s.resources.awaits t ≡ true → c.canceled t ≡ false → s.control.threads.progress t ≡ Some p → Within c s
       → let k = call.CondAwait q m e in Walk n c (After (awaits_on_where f t asked noticed settled k q m s).next) (awaits_on_where f t asked noticed settled k q m s).told
   unfolding told
-  awaits_where_walk true noticed settled q m e p c s awaiting calm on w =
+  awaits_where_walk true noticed settled q m e p c s awaiting uncanceled on w =
       let k = call.CondAwait q m e in
       let x = mark.Canceled (tid t) (Some k) in
       let d = after c x in
@@ -932,15 +932,15 @@ module _ {P S H : Type 0} (f : P → Functions S H) (n t : ℕ) (made : is_made 
       let r : IsLeaving n t d s1.resources.awaits s1 = let z = requested c s (Some k) w in record { resources = z.resources; going = z.going; claims = z.claims; fits = z.fits } in
       let y = ends_walk q m e retake.Canceled p d s2 (put_here c.canceled t true) awaiting on2 (handed_leaving q m e d s1 r) in
       record { law = ((λ locked. (((within_up s.resources.awaits c s w, tt), tt), made)), y.law); post = y.post }
-  awaits_where_walk false true settled q m e p c s awaiting calm on w =
+  awaits_where_walk false true settled q m e p c s awaiting uncanceled on w =
       let s2 = controlled (leaves_seat t (awaits.Notice q)) s in
-      let y = ends_walk q m e retake.Notified p c s2 calm awaiting (ap (λ (y : Threads S). y.progress t) (left_progress q s.control) ∙ on) (left_leaving q c s (leaving s.resources.awaits c s w)) in
+      let y = ends_walk q m e retake.Notified p c s2 uncanceled awaiting (ap (λ (y : Threads S). y.progress t) (left_progress q s.control) ∙ on) (left_leaving q c s (leaving s.resources.awaits c s w)) in
       record { law = y.law; post = y.post }
-  awaits_where_walk false false true q m e p c s awaiting calm on w =
+  awaits_where_walk false false true q m e p c s awaiting uncanceled on w =
       let s2 = controlled (leaves_seat t (awaits.Notice q)) s in
-      let y = ends_walk q m e retake.Interrupted p c s2 calm awaiting (ap (λ (y : Threads S). y.progress t) (left_progress q s.control) ∙ on) (left_leaving q c s (leaving s.resources.awaits c s w)) in
+      let y = ends_walk q m e retake.Interrupted p c s2 uncanceled awaiting (ap (λ (y : Threads S). y.progress t) (left_progress q s.control) ∙ on) (left_leaving q c s (leaving s.resources.awaits c s w)) in
       record { law = y.law; post = y.post }
-  awaits_where_walk false false false q m e p c s awaiting calm on w = waits_on_walk q m e c s awaiting calm w
+  awaits_where_walk false false false q m e p c s awaiting uncanceled on w = waits_on_walk q m e c s awaiting uncanceled w
 
   await_walk : (q m e : ℤ) (a : Awaits) (p : Progress S) (c : Book) (s : State P S H) → s.control.threads.progress t ≡ Some p → p.blocked ≡ Some (record { call = call.CondAwait q m e; awaits = a }) → Within c s → Walk n c (After (awaits_on f t q m e a s).next) (awaits_on f t q m e a s).told
   await_walk q m e a p c s on blocked w = by_awaits a told_here
@@ -953,14 +953,14 @@ module _ {P S H : Type 0} (f : P → Functions S H) (n t : ℕ) (made : is_made 
 
       by_awaits : (a : Awaits) → Tells (flags c s.resources.awaits) t (Some (record { call = call.CondAwait q m e; awaits = a })) → Walk n c (After (awaits_on f t q m e a s).next) (awaits_on f t q m e a s).told
       by_awaits (awaits.Retaking i o) h =
-          let y = ends_walk q m e o p c s (h.calm up ∙ same_reason o) h.fits on (leaving s.resources.awaits c s w) in
+          let y = ends_walk q m e o p c s (h.uncanceled up ∙ same_reason o) h.fits on (leaving s.resources.awaits c s w) in
           record { law = y.law; post = y.post }
         where
           same_reason : (o : Retake) → is_canceled (awaits.Retaking i o) ≡ is_canceled (awaits.Retaking m o)
           same_reason retake.Canceled = refl
           same_reason o = refl
       by_awaits b h =
-          awaits_where_walk (may_be_canceled s.control t) (is_noticed s t q) (has_settled s.control.events (extra_ring e)) q m e p c s h.fits (h.calm up ∙ canceled_retakes b refl) on w
+          awaits_where_walk (may_be_canceled s.control t) (is_noticed s t q) (has_settled s.control.events (extra_ring e)) q m e p c s h.fits (h.uncanceled up ∙ canceled_retakes b refl) on w
 
   -- whatever call it is
   gone_on_walk : (k : Call) (a : Awaits) (p : Progress S) (c : Book) (s : State P S H) → c.block ≡ Closed → s.control.threads.progress t ≡ Some p → p.blocked ≡ Some (record { call = k; awaits = a }) → Within c s → Walk n c (After (gone_on_in f t k a s).next) (gone_on_in f t k a s).told

@@ -25,11 +25,11 @@ answer_past f e rest b r is answers = rw is answers
 -- ---- room for messages
 
 module _ (x : PortsOf) (kept : PortsAreKept x) where
-  all_messages : messages (mail_of x) (names_of x).made ≡ length x.letters
-  all_messages = ap (messages (mail_of x)) (names_made x) ∙ kept.letter_count
+  all_messages : messages (mail_of x) (names_of x).made ≡ length x.stored_messages
+  all_messages = ap (messages (mail_of x)) (names_made x) ∙ kept.stored_count
 
-  pub is_full : message_limit ≤ length x.letters → nat_le message_limit (messages (mail_of x) (names_of x).made) ≡ true
+  pub is_full : message_limit ≤ length x.stored_messages → nat_le message_limit (messages (mail_of x) (names_of x).made) ≡ true
   is_full full = le-leb message_limit _ (omega (arith, all_messages, full))
 
-  pub has_room : length x.letters < message_limit → nat_le message_limit (messages (mail_of x) (names_of x).made) ≡ false
+  pub has_room : length x.stored_messages < message_limit → nat_le message_limit (messages (mail_of x) (names_of x).made) ≡ false
   has_room room = lt-leb message_limit _ (omega (arith, all_messages, room))

@@ -3,34 +3,34 @@ use Rattle.std.proofs.Common.{◌≡◌, ◌≢◌, ℕ, zero, suc, ◌≤◌, L
 use Rattle.pth_port.specs.Mail.{Message}
 use Rattle.pth_port.specs.Ports.{next_of, message_of, walk, messages_in, IsQueued, IsApart, IsLine, PortIsKept}
 use Rattle.pth_port.specs.declared.entries.Port.{Port}
-use Rattle.pth_port.specs.declared.letters.Letter.{Letter}
+use Rattle.pth_port.specs.declared.stored_messages.StoredMessage.{StoredMessage}
 
 -- the messages by number
-abbrev pub Letters : Type 0
-Letters = ℕ → Option Letter
+abbrev pub StoredMessages : Type 0
+StoredMessages = ℕ → Option StoredMessage
 
 -- ---- another table that has the same along a walk
 
-abbrev pub Agrees : (f g : Letters) → (count first : ℕ) → Type 0
+abbrev pub Agrees : (f g : StoredMessages) → (count first : ℕ) → Type 0
 Agrees f g zero n = Unit {0}
 Agrees f g (suc k) n = (g n ≡ f n) × Agrees f g k (next_of (f n))
 
-module _ (f g : Letters) where
+module _ (f g : StoredMessages) where
   pub walk_same : (k n : ℕ) → Agrees f g k n → walk g k n ≡ walk f k n
   walk_same zero n same = refl
-  walk_same (suc k) n same = ap₂ (λ (o : Option Letter) (ms : List Message). message_of n o ∷ ms) same.0 (ap (λ (o : Option Letter). walk g k (next_of o)) same.0 ∙ walk_same k (next_of (f n)) same.1)
+  walk_same (suc k) n same = ap₂ (λ (o : Option StoredMessage) (ms : List Message). message_of n o ∷ ms) same.0 (ap (λ (o : Option StoredMessage). walk g k (next_of o)) same.0 ∙ walk_same k (next_of (f n)) same.1)
 
   apart_same : (m k n : ℕ) → Agrees f g k n → IsApart f m k n → IsApart g m k n
   apart_same m zero n same apart = tt
-  apart_same m (suc k) n same apart = (apart.0, subst (λ (o : Option Letter). IsApart g m k (next_of o)) (sym same.0) (apart_same m k (next_of (f n)) same.1 apart.1))
+  apart_same m (suc k) n same apart = (apart.0, subst (λ (o : Option StoredMessage). IsApart g m k (next_of o)) (sym same.0) (apart_same m k (next_of (f n)) same.1 apart.1))
 
   pub line_same : (p last k n : ℕ) → Agrees f g k n → IsLine f p last k n → IsLine g p last k n
   line_same p last zero n same line = tt
   line_same p last (suc k) n same line = (
     subst (IsQueued p) (sym same.0) line.0,
-    subst (λ (o : Option Letter). IsApart g n k (next_of o)) (sym same.0) (apart_same n k (next_of (f n)) same.1 line.1),
+    subst (λ (o : Option StoredMessage). IsApart g n k (next_of o)) (sym same.0) (apart_same n k (next_of (f n)) same.1 line.1),
     line.2,
-    subst (λ (o : Option Letter). IsLine g p last k (next_of o)) (sym same.0) (line_same p last k (next_of (f n)) same.1 line.3),
+    subst (λ (o : Option StoredMessage). IsLine g p last k (next_of o)) (sym same.0) (line_same p last k (next_of (f n)) same.1 line.3),
   )
 
   -- what is queued at a port is the same
@@ -63,7 +63,7 @@ module _ (f g : Letters) where
 
 -- ---- one more message, which stands behind the last
 
-module _ (f g : Letters) (p last m : ℕ) (others : (j : ℕ) → IsQueued p (f j) → j ≢ last → g j ≡ f j) (free : IsQueued p (f m) → ⊥) (here : IsQueued p (g m)) (there : IsQueued p (g last)) (same : message_of last (g last) ≡ message_of last (f last)) (next : next_of (g last) ≡ m) where
+module _ (f g : StoredMessages) (p last m : ℕ) (others : (j : ℕ) → IsQueued p (f j) → j ≢ last → g j ≡ f j) (free : IsQueued p (f m) → ⊥) (here : IsQueued p (g m)) (there : IsQueued p (g last)) (same : message_of last (g last) ≡ message_of last (f last)) (next : next_of (g last) ≡ m) where
   behind : (n : ℕ) → n ≡ last → next_of (g n) ≡ m
   behind n is = ap (λ (i : ℕ). next_of (g i)) is ∙ next
 
@@ -74,7 +74,7 @@ module _ (f g : Letters) (p last m : ℕ) (others : (j : ℕ) → IsQueued p (f 
   apart_more x zero n new line apart = (apart.0, (λ is. new (sym (behind n line.2) ∙ is), tt))
   apart_more x (suc k) n new line apart =
       let kept = others n line.0 line.2 in
-      (apart.0, subst (λ (o : Option Letter). IsApart g x (suc (suc k)) (next_of o)) (sym kept) (apart_more x k (next_of (f n)) new line.3 apart.1))
+      (apart.0, subst (λ (o : Option StoredMessage). IsApart g x (suc (suc k)) (next_of o)) (sym kept) (apart_more x k (next_of (f n)) new line.3 apart.1))
 
   pub line_more : (k n : ℕ) → IsLine f p last (suc k) n → IsLine g p m (suc (suc k)) n
   line_more zero n line =
@@ -87,9 +87,9 @@ module _ (f g : Letters) (p last m : ℕ) (others : (j : ℕ) → IsQueued p (f 
   line_more (suc k) n line =
       let kept = others n line.0 line.2 in (
         subst (IsQueued p) (sym kept) line.0,
-        subst (λ (o : Option Letter). IsApart g n (suc (suc k)) (next_of o)) (sym kept) (apart_more n k (next_of (f n)) (λ is. not_new n line.0 (sym is)) line.3 line.1),
+        subst (λ (o : Option StoredMessage). IsApart g n (suc (suc k)) (next_of o)) (sym kept) (apart_more n k (next_of (f n)) (λ is. not_new n line.0 (sym is)) line.3 line.1),
         not_new n line.0,
-        subst (λ (o : Option Letter). IsLine g p m (suc (suc k)) (next_of o)) (sym kept) (line_more k (next_of (f n)) line.3),
+        subst (λ (o : Option StoredMessage). IsLine g p m (suc (suc k)) (next_of o)) (sym kept) (line_more k (next_of (f n)) line.3),
       )
 
   pub walk_more : (k n : ℕ) → IsLine f p last (suc k) n → walk g (suc (suc k)) n ≡ walk f (suc k) n ++ (message_of m (g m) ∷ [])
@@ -99,11 +99,11 @@ module _ (f g : Letters) (p last m : ℕ) (others : (j : ℕ) → IsQueued p (f 
       ap₂ (λ (a b : Message). a ∷ b ∷ []) one (ap (λ (i : ℕ). message_of i (g i)) at)
   walk_more (suc k) n line =
       let kept = others n line.0 line.2 in
-      ap₂ (λ (o : Option Letter) (ms : List Message). message_of n o ∷ ms) kept (ap (λ (o : Option Letter). walk g (suc (suc k)) (next_of o)) kept ∙ walk_more k (next_of (f n)) line.3)
+      ap₂ (λ (o : Option StoredMessage) (ms : List Message). message_of n o ∷ ms) kept (ap (λ (o : Option StoredMessage). walk g (suc (suc k)) (next_of o)) kept ∙ walk_more k (next_of (f n)) line.3)
 
 -- ---- the first is taken
 
-module _ (f g : Letters) (p last k n : ℕ) (line : IsLine f p last (suc k) n) (others : (j : ℕ) → j ≢ n → g j ≡ f j) where
+module _ (f g : StoredMessages) (p last k n : ℕ) (line : IsLine f p last (suc k) n) (others : (j : ℕ) → j ≢ n → g j ≡ f j) where
   pub line_less : IsLine g p last k (next_of (f n))
   line_less = line_same f g p last k (next_of (f n)) (agrees_apart f g n k (next_of (f n)) others line.1) line.3
 

@@ -11,7 +11,7 @@ use Rattle.std.proofs.lemmas.Map.Lookups.{exact_unsigned}
 use Rattle.pth_base.specs.Table.{put}
 use Rattle.pth_base.proofs.Tables.{not_same, put_is}
 use Rattle.pth_base.proofs.Lists.{put_none}
-use Rattle.pth_port.specs.Ports.{entry_at, letter_in, with_entry}
+use Rattle.pth_port.specs.Ports.{entry_at, stored_in, with_entry}
 
 not_equal : (o : Ordering) → (o ≡ Equal → ⊥) → is_eq o ≡ false
 not_equal Less h = refl
@@ -42,19 +42,19 @@ module _ {A : Type 0} where
 -- ---- and of a map in no order
 
 module _ {A S : Type 0} where
-  pub letter_put : (m n : HashMap ℕ A S) (k : ℕ) (w : Option A) → hash.Updates nat_eq m n k w → letter_in n.entries ≡ put (letter_in m.entries) k w
-  unfolding letter_in
-  letter_put m n k w up = put_is _ _ k w up.1 (λ q apart. up.2 q (not_same k q (λ e. apart (sym e))))
+  pub stored_put : (m n : HashMap ℕ A S) (k : ℕ) (w : Option A) → hash.Updates nat_eq m n k w → stored_in n.entries ≡ put (stored_in m.entries) k w
+  unfolding stored_in
+  stored_put m n k w up = put_is _ _ k w up.1 (λ q apart. up.2 q (not_same k q (λ e. apart (sym e))))
 
   -- one was written, where there was one
-  pub letter_written : (m n : HashMap ℕ A S) (k : ℕ) (v : A) (change : A → A) → hash.WritesThrough nat_eq (nat_eq k) m (change v) n → Some v ≡ hash.get nat_eq m k → letter_in n.entries ≡ with_entry k change (letter_in m.entries)
-  unfolding letter_in
-  letter_written m n k v change writes was =
+  pub stored_written : (m n : HashMap ℕ A S) (k : ℕ) (v : A) (change : A → A) → hash.WritesThrough nat_eq (nat_eq k) m (change v) n → Some v ≡ hash.get nat_eq m k → stored_in n.entries ≡ with_entry k change (stored_in m.entries)
+  unfolding stored_in
+  stored_written m n k v change writes was =
       let found : IsSome (hash.get nat_eq m k) = ap is_some (sym was) in
-      letter_put m n k (Some (change v)) (writes.3 found) ∙ ap (put (letter_in m.entries) k) (ap (option_map change) was)
+      stored_put m n k (Some (change v)) (writes.3 found) ∙ ap (put (stored_in m.entries) k) (ap (option_map change) was)
 
   -- there was none
-  pub letter_none : (m n : HashMap ℕ A S) (k : ℕ) (change : A → A) → n ≡ m → None ≡ hash.get nat_eq m k → letter_in n.entries ≡ with_entry k change (letter_in m.entries)
-  unfolding letter_in
-  letter_none m n k change same was =
-      ap (λ (x : HashMap ℕ A S). letter_in x.entries) same ∙ sym (put_none (letter_in m.entries) k (option_map change (letter_in m.entries k)) (sym was ∙ ap (option_map change) was))
+  pub stored_none : (m n : HashMap ℕ A S) (k : ℕ) (change : A → A) → n ≡ m → None ≡ hash.get nat_eq m k → stored_in n.entries ≡ with_entry k change (stored_in m.entries)
+  unfolding stored_in
+  stored_none m n k change same was =
+      ap (λ (x : HashMap ℕ A S). stored_in x.entries) same ∙ sym (put_none (stored_in m.entries) k (option_map change (stored_in m.entries k)) (sym was ∙ ap (option_map change) was))

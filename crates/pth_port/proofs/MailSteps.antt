@@ -9,9 +9,9 @@ use Rattle.pth_base.specs.declared.errno.Errno.{Errno}
 use Rattle.pth_base.specs.declared.errno.Errno.TheVariants.{EINVAL}
 use Rattle.pth_numbered.specs.Operands.{number, is_zero}
 use Rattle.pth_port.specs.Mail.{Mail, Message, messages_of, is_live, reply_port, put_to, got, replied, sent_back, closed_port, sent}
-use Rattle.pth_port.specs.Ports.{PortsOf, port_at, letter_at, is_held, reply_number, message, held_of, queue_in, messages_in, mail_of, with_held, without_held, first_message, first_held, settled, gone_on, without_port, PortsAreKept}
-use Rattle.pth_port.specs.declared.letters.Letter.{Letter}
-use Rattle.pth_port.specs.declared.letters.Queue.{Queue}
+use Rattle.pth_port.specs.Ports.{PortsOf, port_at, stored_at, is_held, reply_number, message, held_of, queue_in, messages_in, mail_of, with_held, without_held, first_message, first_held, settled, gone_on, without_port, PortsAreKept}
+use Rattle.pth_port.specs.declared.stored_messages.StoredMessage.{StoredMessage}
+use Rattle.pth_port.specs.declared.stored_messages.Queue.{Queue}
 use Rattle.pth_port.proofs.Changes.{mail_at, mail_kept}
 use Rattle.pth_port.proofs.Queueing.{has_queue, length_walk}
 use Rattle.pth_port.proofs.Naming.{zero_not_live}
@@ -25,20 +25,20 @@ pending_of o = if not (is_some o) then Err EINVAL else Ok (length (messages_of o
 pub pending_some : (x : PortsOf) (p : ℕ) (queue : Queue) → Some queue ≡ queue_in (port_at x p) → pending_of ((mail_of x).at p) ≡ Ok queue.length
 pending_some x p queue is =
     let h = has_queue (port_at x p) queue is in
-    ap pending_of (mail_at x p ∙ ap (option_map (messages_in (letter_at x))) h.1)
-    ∙ ap Ok (length_walk (letter_at x) h.0.queue.length h.0.queue.first)
+    ap pending_of (mail_at x p ∙ ap (option_map (messages_in (stored_at x))) h.1)
+    ∙ ap Ok (length_walk (stored_at x) h.0.queue.length h.0.queue.first)
     ∙ ap (λ (q : Queue). Ok q.length) h.2
 
 -- ---- what is held
 
 module _ (x : PortsOf) (n : ℕ) where
-  pub held_here : (l : Letter) → Some l ≡ letter_at x n → is_held l.place ≡ true → (mail_of x).kept n ≡ Some (message n l)
+  pub held_here : (l : StoredMessage) → Some l ≡ stored_at x n → is_held l.place ≡ true → (mail_of x).kept n ≡ Some (message n l)
   held_here l is held = mail_kept x n ∙ ap (held_of n) (sym is) ∙ ap (λ (b : Bool). if b then Some (message n l) else None) held
 
-  pub not_here : (l : Letter) → Some l ≡ letter_at x n → is_held l.place ≡ false → (mail_of x).kept n ≡ None
+  pub not_here : (l : StoredMessage) → Some l ≡ stored_at x n → is_held l.place ≡ false → (mail_of x).kept n ≡ None
   not_here l is queued = mail_kept x n ∙ ap (held_of n) (sym is) ∙ ap (λ (b : Bool). if b then Some (message n l) else None) queued
 
-  pub none_here : None ≡ letter_at x n → (mail_of x).kept n ≡ None
+  pub none_here : None ≡ stored_at x n → (mail_of x).kept n ≡ None
   none_here none = mail_kept x n ∙ ap (held_of n) (sym none)
 
 -- the port for the reply of a held message
@@ -56,7 +56,7 @@ none_by None q n v o zero is = ap (λ (o : Option Message). is_live q (reply_por
 
 module _ (x : PortsOf) (kept : PortsAreKept x) (n : ℕ) where
   -- where it has none, that is not live
-  pub reply_none : (l : Letter) → (mail_of x).kept n ≡ Some (message n l) → IfNone l.reply (is_live (mail_of x) (reply_port ((mail_of x).kept n)) ≡ false)
+  pub reply_none : (l : StoredMessage) → (mail_of x).kept n ≡ Some (message n l) → IfNone l.reply (is_live (mail_of x) (reply_port ((mail_of x).kept n)) ≡ false)
   reply_none l is = none_by l.reply (mail_of x) n l.value ((mail_of x).kept n) (zero_not_live x kept) is
 
   pub reply_absent : (mail_of x).kept n ≡ None → is_live (mail_of x) (reply_port ((mail_of x).kept n)) ≡ false

@@ -13,10 +13,10 @@ use Rattle.pth_numbered.specs.Numbered.{number_known}
 use Rattle.pth_numbered.proofs.Known.{number_same}
 use Rattle.pth_numbered.specs.Operands.{number}
 use Rattle.pth_port.specs.Mail.{Message, PortNames, port_limit, messages_of, queued, has_name, port_named, is_live, is_taken, with_port, no_mail, no_names, port_added, port_removed}
-use Rattle.pth_port.specs.Ports.{PortsOf, entry_at, letter_in, port_at, letter_at, messages_in, walk, name_in, queue_in, first_named, mail_of, names_of, port_number, without_port, NamesDiffer, IsQueued, IsLine, PortIsKept, LetterIsKept, PortsAreKept}
+use Rattle.pth_port.specs.Ports.{PortsOf, entry_at, stored_in, port_at, stored_at, messages_in, walk, name_in, queue_in, first_named, mail_of, names_of, port_number, without_port, NamesDiffer, IsQueued, IsLine, PortIsKept, StoredMessageIsKept, PortsAreKept}
 use Rattle.pth_port.specs.declared.entries.Port.{Port}
-use Rattle.pth_port.specs.declared.letters.Letter.{Letter}
-use Rattle.pth_port.proofs.Lines.{Letters}
+use Rattle.pth_port.specs.declared.stored_messages.StoredMessage.{StoredMessage}
+use Rattle.pth_port.proofs.Lines.{StoredMessages}
 use Rattle.pth_port.proofs.Counts.{one, number_put, number_past, queued_put, queued_past}
 use Rattle.pth_port.proofs.Changes.{mail_is, names_is, mail_made, names_made, mail_at, messages_are, at_put, ports_put, names_put}
 
@@ -26,21 +26,21 @@ pub names_at : (x : PortsOf) (p : ℕ) → (names_of x).names p ≡ name_in (por
 unfolding names_of
 names_at x p = refl
 
-live_some : (f : Letters) (o : Option Port) → is_some (queue_in o) ≡ is_some (option_map (messages_in f) o)
+live_some : (f : StoredMessages) (o : Option Port) → is_some (queue_in o) ≡ is_some (option_map (messages_in f) o)
 live_some f (Some port) = refl
 live_some f None = refl
 
 -- a port has a queue where it is live
 pub live_is : (x : PortsOf) (p : ℕ) → is_some (queue_in (port_at x p)) ≡ is_live (mail_of x) p
-live_is x p = live_some (letter_at x) (port_at x p) ∙ sym (ap is_some (mail_at x p))
+live_is x p = live_some (stored_at x) (port_at x p) ∙ sym (ap is_some (mail_at x p))
 
 module _ (x : PortsOf) (kept : PortsAreKept x) where
-  none_by : (p : ℕ) (o : Option Port) → PortIsKept (letter_at x) x.made p o → ((0 < p) × (p ≤ x.made) → ⊥) → o ≡ None
+  none_by : (p : ℕ) (o : Option Port) → PortIsKept (stored_at x) x.made p o → ((0 < p) × (p ≤ x.made) → ⊥) → o ≡ None
   none_by p (Some port) given outside = absurd (outside (given.0, given.1))
   none_by p None given outside = refl
 
   not_live : (p : ℕ) → port_at x p ≡ None → is_live (mail_of x) p ≡ false
-  not_live p none = ap is_some (mail_at x p ∙ ap (option_map (messages_in (letter_at x))) none)
+  not_live p none = ap is_some (mail_at x p ∙ ap (option_map (messages_in (stored_at x))) none)
 
   -- no port has the number 0, or one that does not fit
   pub zero_not_live : is_live (mail_of x) 0 ≡ false
@@ -69,7 +69,7 @@ module _ (x : PortsOf) (kept : PortsAreKept x) where
   no_port_yet = none_by (x.made + 1) (port_at x (x.made + 1)) (kept.ports (x.made + 1)) (λ h. absurd (omega (arith, h.1)))
 
   -- a name is that of a live port
-  named_given : (name : List ℕ) (p : ℕ) (o : Option Port) → PortIsKept (letter_at x) x.made p o → has_name name (name_in o) ≡ true → (0 < p) × (p ≤ x.made)
+  named_given : (name : List ℕ) (p : ℕ) (o : Option Port) → PortIsKept (stored_at x) x.made p o → has_name name (name_in o) ≡ true → (0 < p) × (p ≤ x.made)
   named_given name p (Some port) given named = (given.0, given.1)
   named_given name p None given named = absurd (cc named)
 
@@ -183,22 +183,22 @@ module _ (x : PortsOf) (kept : PortsAreKept x) where
       (λ too new. absurd (free_of o free name p new old))
       (λ also other. kept.names name p q old other))
 
-  module _ (y : PortsOf) (port : Port) (empty : port.queue.length ≡ 0) (ports : port_at y ≡ put (port_at x) (x.made + 1) (Some port)) (long : length y.ports ≡ length x.ports + 1) (made : y.made ≡ x.made + 1) (letters : y.letters ≡ x.letters) (sent : y.sent ≡ x.sent) where
+  module _ (y : PortsOf) (port : Port) (empty : port.queue.length ≡ 0) (ports : port_at y ≡ put (port_at x) (x.made + 1) (Some port)) (long : length y.ports ≡ length x.ports + 1) (made : y.made ≡ x.made + 1) (stored_messages : y.stored_messages ≡ x.stored_messages) (sent : y.sent ≡ x.sent) where
     abbrev p : ℕ
     p = x.made + 1
 
-    same_letters : letter_at y ≡ letter_at x
-    same_letters = ap (λ (es : List (ℕ × Letter)). letter_in es) letters
+    same_stored_messages : stored_at y ≡ stored_at x
+    same_stored_messages = ap (λ (es : List (ℕ × StoredMessage)). stored_in es) stored_messages
 
-    new_stays : (i : ℕ) → i ≢ p → (j : ℕ) → IsQueued i (letter_at x j) → letter_at y j ≡ letter_at x j
-    new_stays i apart j queued = ap (λ (f : Letters). f j) same_letters
+    new_stays : (i : ℕ) → i ≢ p → (j : ℕ) → IsQueued i (stored_at x j) → stored_at y j ≡ stored_at x j
+    new_stays i apart j queued = ap (λ (f : StoredMessages). f j) same_stored_messages
 
     pub added_at : (mail_of y).at ≡ put (mail_of x).at p (Some [])
-    added_at = at_put x y kept p (Some port) ports new_stays ∙ ap (λ (k : ℕ). put (mail_of x).at p (Some (walk (letter_at y) k port.queue.first))) empty
+    added_at = at_put x y kept p (Some port) ports new_stays ∙ ap (λ (k : ℕ). put (mail_of x).at p (Some (walk (stored_at y) k port.queue.first))) empty
 
     same_held : (mail_of y).kept ≡ (mail_of x).kept
     unfolding mail_of
-    same_held = ap (λ (es : List (ℕ × Letter)). (mail_of (record x { letters = es })).kept) letters
+    same_held = ap (λ (es : List (ℕ × StoredMessage)). (mail_of (record x { stored_messages = es })).kept) stored_messages
 
     pub new_names : names_of y ≡ port_added port.name (names_of x)
     new_names = names_is (names_of y) (port_added port.name (names_of x)) (names_made y ∙ made ∙ ap (λ (k : ℕ). k + 1) (sym (names_made x)))
@@ -211,25 +211,25 @@ module _ (x : PortsOf) (kept : PortsAreKept x) where
 
     pub new_kept : is_taken (names_of x) port.name ≡ false → x.made < 4294967295 → length x.ports < port_limit → PortsAreKept y
     new_kept free fits few = record {
-      ports = ports_put x y kept p (Some port) ports new_stays (omega (arith, made)) (omega arith, omega (arith, made), subst (λ (k : ℕ). IsLine (letter_at y) p port.queue.last k port.queue.first) (sym empty) tt);
-      letters = subst (λ (f : Letters). (n : ℕ) → LetterIsKept y.sent n (f n)) (sym same_letters) (subst (λ (s : ℕ). (n : ℕ) → LetterIsKept s n (letter_at x n)) (sym sent) kept.letters);
+      ports = ports_put x y kept p (Some port) ports new_stays (omega (arith, made)) (omega arith, omega (arith, made), subst (λ (k : ℕ). IsLine (stored_at y) p port.queue.last k port.queue.first) (sym empty) tt);
+      stored_messages = subst (λ (f : StoredMessages). (n : ℕ) → StoredMessageIsKept y.sent n (f n)) (sym same_stored_messages) (subst (λ (s : ℕ). (n : ℕ) → StoredMessageIsKept s n (stored_at x n)) (sym sent) kept.stored_messages);
       numbers = omega (arith, made, fits);
       port_count =
           let more = number_put (port_at x) p (Some port) p (omega arith) (omega arith) in
           let past = number_past (port_at x) x.made (no_port_yet x kept) in
           let none : one (port_at x p) ≡ 0 = ap one (no_port_yet x kept) in
           ap₂ (λ (f : ℕ → Option Port) (k : ℕ). number_known f k) ports made ∙ omega (arith, more, past, none, kept.port_count, long);
-      letter_count =
-          let before = sym (messages_are (mail_of x) x.made x.sent (mail_made x)) ∙ kept.letter_count in
-          let none : (mail_of x).at p ≡ None = mail_at x p ∙ ap (option_map (messages_in (letter_at x))) (no_port_yet x kept) in
+      stored_count =
+          let before = sym (messages_are (mail_of x) x.made x.sent (mail_made x)) ∙ kept.stored_count in
+          let none : (mail_of x).at p ≡ None = mail_at x p ∙ ap (option_map (messages_in (stored_at x))) (no_port_yet x kept) in
           let more = queued_put (mail_of x) (mail_of y) p (Some []) p added_at (omega arith) (omega arith) in
           let nothing : length (messages_of ((mail_of x).at p)) ≡ 0 = ap (λ (o : Option (List Message)). length (messages_of o)) none in
           let past = queued_past (mail_of x) x.made none in
-          let same : length y.letters ≡ length x.letters = ap length letters in
+          let same : length y.stored_messages ≡ length x.stored_messages = ap length stored_messages in
           let held = ap (λ (f : ℕ → Option Message). number_known f x.sent) same_held in
           messages_are (mail_of y) y.made x.sent (mail_made y ∙ sent) ∙ ap (λ (k : ℕ). queued (mail_of y) k + number_known (mail_of y).kept x.sent) made ∙ omega (arith, before, more, nothing, past, same, held);
       few_ports = omega (arith, long, few);
-      few_letters = subst (λ (es : List (ℕ × Letter)). length es ≤ 65536) (sym letters) kept.few_letters;
+      few_stored_messages = subst (λ (es : List (ℕ × StoredMessage)). length es ≤ 65536) (sym stored_messages) kept.few_stored_messages;
       names = subst (λ (z : PortNames). NamesDiffer z) (sym new_names) (still_differ port.name ((names_of x).made + 1) free);
     }
 
@@ -237,7 +237,7 @@ module _ (x : PortsOf) (kept : PortsAreKept x) where
   pub count_ports : number_known (mail_of x).at (names_of x).made ≡ length x.ports
   count_ports = ap (number_known (mail_of x).at) (names_made x) ∙ number_same (mail_of x).at (port_at x) x.made (λ i le. ap is_some (mail_at x i) ∙ some_same (port_at x i)) ∙ kept.port_count
     where
-      some_same : (o : Option Port) → is_some (option_map (messages_in (letter_at x)) o) ≡ is_some o
+      some_same : (o : Option Port) → is_some (option_map (messages_in (stored_at x)) o) ≡ is_some o
       some_same (Some port) = refl
       some_same None = refl
 
@@ -249,19 +249,19 @@ module _ (x : PortsOf) (kept : PortsAreKept x) where
 
 -- ---- a port without messages goes
 
-module _ (x : PortsOf) (kept : PortsAreKept x) (y : PortsOf) (p : ℕ) (live : is_live (mail_of x) p ≡ true) (empty : messages_of ((mail_of x).at p) ≡ []) (ports : port_at y ≡ put (port_at x) p None) (long : length y.ports + (if is_some (port_at x p) then 1 else 0) ≡ length x.ports) (made : y.made ≡ x.made) (letters : y.letters ≡ x.letters) (sent : y.sent ≡ x.sent) where
-  gone_letters : letter_at y ≡ letter_at x
-  gone_letters = ap (λ (es : List (ℕ × Letter)). letter_in es) letters
+module _ (x : PortsOf) (kept : PortsAreKept x) (y : PortsOf) (p : ℕ) (live : is_live (mail_of x) p ≡ true) (empty : messages_of ((mail_of x).at p) ≡ []) (ports : port_at y ≡ put (port_at x) p None) (long : length y.ports + (if is_some (port_at x p) then 1 else 0) ≡ length x.ports) (made : y.made ≡ x.made) (stored_messages : y.stored_messages ≡ x.stored_messages) (sent : y.sent ≡ x.sent) where
+  gone_stored_messages : stored_at y ≡ stored_at x
+  gone_stored_messages = ap (λ (es : List (ℕ × StoredMessage)). stored_in es) stored_messages
 
-  gone_stays : (i : ℕ) → i ≢ p → (j : ℕ) → IsQueued i (letter_at x j) → letter_at y j ≡ letter_at x j
-  gone_stays i apart j queued = ap (λ (f : Letters). f j) gone_letters
+  gone_stays : (i : ℕ) → i ≢ p → (j : ℕ) → IsQueued i (stored_at x j) → stored_at y j ≡ stored_at x j
+  gone_stays i apart j queued = ap (λ (f : StoredMessages). f j) gone_stored_messages
 
   gone_at : (mail_of y).at ≡ put (mail_of x).at p None
   gone_at = at_put x y kept p None ports gone_stays
 
   gone_held : (mail_of y).kept ≡ (mail_of x).kept
   unfolding mail_of
-  gone_held = ap (λ (es : List (ℕ × Letter)). (mail_of (record x { letters = es })).kept) letters
+  gone_held = ap (λ (es : List (ℕ × StoredMessage)). (mail_of (record x { stored_messages = es })).kept) stored_messages
 
   pub gone_mail : mail_of y ≡ without_port p (mail_of x)
   gone_mail = mail_is (mail_of y) (without_port p (mail_of x)) gone_at gone_held (mail_made y ∙ sent ∙ sym (mail_made x))
@@ -272,11 +272,11 @@ module _ (x : PortsOf) (kept : PortsAreKept x) (y : PortsOf) (p : ℕ) (live : i
   was_live : is_some (port_at x p) ≡ true
   was_live = some_in (port_at x p) (ap is_some (sym (mail_at x p)) ∙ live)
     where
-      some_in : (o : Option Port) → is_some (option_map (messages_in (letter_at x)) o) ≡ true → is_some o ≡ true
+      some_in : (o : Option Port) → is_some (option_map (messages_in (stored_at x)) o) ≡ true → is_some o ≡ true
       some_in (Some port) some = refl
       some_in None some = absurd (cc some)
 
-  live_given : (o : Option Port) → PortIsKept (letter_at x) x.made p o → is_some o ≡ true → (0 < p) × (p ≤ x.made)
+  live_given : (o : Option Port) → PortIsKept (stored_at x) x.made p o → is_some o ≡ true → (0 < p) × (p ≤ x.made)
   live_given (Some port) given some = (given.0, given.1)
   live_given None given some = absurd (cc some)
 
@@ -286,20 +286,20 @@ module _ (x : PortsOf) (kept : PortsAreKept x) (y : PortsOf) (p : ℕ) (live : i
       let had : one (port_at x p) ≡ 1 = ap (λ (b : Bool). if b then 1 else 0) was_live in
       record {
         ports = ports_put x y kept p None ports gone_stays (omega (arith, made)) tt;
-        letters = subst (λ (f : Letters). (n : ℕ) → LetterIsKept y.sent n (f n)) (sym gone_letters) (subst (λ (s : ℕ). (n : ℕ) → LetterIsKept s n (letter_at x n)) (sym sent) kept.letters);
+        stored_messages = subst (λ (f : StoredMessages). (n : ℕ) → StoredMessageIsKept y.sent n (f n)) (sym gone_stored_messages) (subst (λ (s : ℕ). (n : ℕ) → StoredMessageIsKept s n (stored_at x n)) (sym sent) kept.stored_messages);
         numbers = omega (arith, made, kept.numbers);
         port_count =
             let less = number_put (port_at x) p None x.made number.0 number.1 in
             ap₂ (λ (f : ℕ → Option Port) (k : ℕ). number_known f k) ports made ∙ omega (arith, less, had, kept.port_count, long);
-        letter_count =
-            let before = sym (messages_are (mail_of x) x.made x.sent (mail_made x)) ∙ kept.letter_count in
+        stored_count =
+            let before = sym (messages_are (mail_of x) x.made x.sent (mail_made x)) ∙ kept.stored_count in
             let less = queued_put (mail_of x) (mail_of y) p None x.made gone_at number.0 number.1 in
             let nothing : length (messages_of ((mail_of x).at p)) ≡ 0 = ap length empty in
-            let same : length y.letters ≡ length x.letters = ap length letters in
+            let same : length y.stored_messages ≡ length x.stored_messages = ap length stored_messages in
             let held = ap (λ (f : ℕ → Option Message). number_known f x.sent) gone_held in
             messages_are (mail_of y) y.made x.sent (mail_made y ∙ sent) ∙ ap (λ (k : ℕ). queued (mail_of y) k + number_known (mail_of y).kept x.sent) made ∙ omega (arith, before, less, nothing, same, held);
         few_ports = omega (arith, long, kept.few_ports);
-        few_letters = subst (λ (es : List (ℕ × Letter)). length es ≤ 65536) (sym letters) kept.few_letters;
+        few_stored_messages = subst (λ (es : List (ℕ × StoredMessage)). length es ≤ 65536) (sym stored_messages) kept.few_stored_messages;
         names = subst (λ (z : PortNames). NamesDiffer z) (sym gone_names) still_apart;
       }
     where
@@ -314,10 +314,10 @@ module _ (x : PortsOf) (kept : PortsAreKept x) (y : PortsOf) (p : ℕ) (live : i
 -- ---- no port was made
 
 abbrev nothing : PortsOf
-nothing = record { ports = []; letters = []; made = 0; sent = 0 }
+nothing = record { ports = []; stored_messages = []; made = 0; sent = 0 }
 
 pub nothing_mail : mail_of nothing ≡ no_mail
-unfolding mail_of entry_at letter_in
+unfolding mail_of entry_at stored_in
 nothing_mail = refl
 
 pub nothing_names : names_of nothing ≡ no_names
@@ -325,14 +325,14 @@ unfolding names_of entry_at
 nothing_names = refl
 
 pub nothing_kept : PortsAreKept nothing
-unfolding mail_of names_of entry_at letter_in number_known queued
+unfolding mail_of names_of entry_at stored_in number_known queued
 nothing_kept = record {
   ports = λ p. tt;
-  letters = λ n. tt;
+  stored_messages = λ n. tt;
   numbers = omega arith;
   port_count = refl;
-  letter_count = refl;
+  stored_count = refl;
   few_ports = omega arith;
-  few_letters = omega arith;
+  few_stored_messages = omega arith;
   names = λ name p q none other. absurd (cc none);
 }

@@ -12,15 +12,15 @@ use Rattle.pth_numbered.specs.Numbered.{number_known}
 use Rattle.pth_numbered.specs.Operands.{number}
 use Rattle.pth_port.specs.Mail.{Message, Mail, PortNames, port_limit, message_limit, messages, has_name, sent}
 use Rattle.pth_port.specs.declared.entries.Port.{Port}
-use Rattle.pth_port.specs.declared.letters.Letter.{Letter}
-use Rattle.pth_port.specs.declared.letters.Place.{Place}
-use Rattle.pth_port.specs.declared.letters.Place.TheVariants.{Queued, Held}
-use Rattle.pth_port.specs.declared.letters.Queue.{Queue}
+use Rattle.pth_port.specs.declared.stored_messages.StoredMessage.{StoredMessage}
+use Rattle.pth_port.specs.declared.stored_messages.Place.{Place}
+use Rattle.pth_port.specs.declared.stored_messages.Place.TheVariants.{Queued, Held}
+use Rattle.pth_port.specs.declared.stored_messages.Queue.{Queue}
 
 -- ports and messages by number, and how many were ever made and put
 pub record PortsOf : Type 0 where
   pub ports : List (ℕ × Port)
-  pub letters : List (ℕ × Letter)
+  pub stored_messages : List (ℕ × StoredMessage)
   pub made : ℕ
   pub sent : ℕ
 
@@ -32,8 +32,8 @@ module _ {A : Type 0} where
   entry_at es n = lookup (is_at (nat_cmp n)) es
 
   -- the same of entries that stand in no order
-  unfoldable pub letter_in : List (ℕ × A) → ℕ → Option A
-  letter_in es n = lookup (nat_eq n) es
+  unfoldable pub stored_in : List (ℕ × A) → ℕ → Option A
+  stored_in es n = lookup (nat_eq n) es
 
   -- another one is under a number, if one is there
   abbrev pub with_entry : ℕ → (A → A) → (ℕ → Option A) → ℕ → Option A
@@ -42,21 +42,21 @@ module _ {A : Type 0} where
 abbrev pub port_at : PortsOf → ℕ → Option Port
 port_at x p = entry_at x.ports p
 
-abbrev pub letter_at : PortsOf → ℕ → Option Letter
-letter_at x n = letter_in x.letters n
+abbrev pub stored_at : PortsOf → ℕ → Option StoredMessage
+stored_at x n = stored_in x.stored_messages n
 
 -- ---- changes of an entry
 
 -- a message is at another place
-abbrev pub at_place : Place → Letter → Letter
+abbrev pub at_place : Place → StoredMessage → StoredMessage
 at_place place l = record l { place = place }
 
 -- it has another value, and no port for its reply
-abbrev pub rewritten : ℤ → Letter → Letter
+abbrev pub rewritten : ℤ → StoredMessage → StoredMessage
 rewritten v l = record l { value = v; reply = None }
 
 -- it has no port for its reply
-abbrev pub without_reply : Letter → Letter
+abbrev pub without_reply : StoredMessage → StoredMessage
 without_reply l = record l { reply = None }
 
 -- the queue of a port is another
@@ -72,7 +72,7 @@ with_last n queue = record {
 }
 
 -- it is the last of a queue at a port, and stands behind the one that was, if one was
-abbrev pub linked : PortId → ℕ → Queue → (ℕ → Option Letter) → ℕ → Option Letter
+abbrev pub linked : PortId → ℕ → Queue → (ℕ → Option StoredMessage) → ℕ → Option StoredMessage
 linked p n queue f =
     with_entry n (at_place (Queued p 0))
     (if queue.length == 0 then f else with_entry queue.last (at_place (Queued p n)) f)
@@ -98,21 +98,21 @@ next_in (Queued p n) = n
 next_in Held = 0
 
 -- nothing stands behind a message that is not there
-abbrev pub next_of : Option Letter → ℕ
+abbrev pub next_of : Option StoredMessage → ℕ
 next_of (Some l) = next_in l.place
 next_of None = 0
 
 -- a message with its number
-abbrev pub message : ℕ → Letter → Message
+abbrev pub message : ℕ → StoredMessage → Message
 message n l = record { number = n; value = l.value; reply = reply_number l.reply }
 
 -- the message of a number; a value is given to one that is not there
-abbrev pub message_of : ℕ → Option Letter → Message
+abbrev pub message_of : ℕ → Option StoredMessage → Message
 message_of n (Some l) = message n l
 message_of n None = record { number = n; value = pos 0; reply = 0 }
 
 -- a message that was got
-abbrev pub held_of : ℕ → Option Letter → Option Message
+abbrev pub held_of : ℕ → Option StoredMessage → Option Message
 held_of n (Some l) = if is_held l.place then Some (message n l) else None
 held_of n None = None
 
@@ -125,7 +125,7 @@ queue_in (Some port) = Some port.queue
 queue_in None = None
 
 -- the first of a queue with its number, where it has one
-abbrev pub taken_first : Queue → Option Letter → Option (ℕ × Letter)
+abbrev pub taken_first : Queue → Option StoredMessage → Option (ℕ × StoredMessage)
 taken_first queue (Some l) = if queue.length == 0 then None else Some (queue.first, l)
 taken_first queue None = None
 
@@ -135,20 +135,20 @@ first_named name [] = None
 first_named name (e ∷ es) = if has_name name e.1.name then Some e.0 else first_named name es
 
 -- so many messages, from one number on
-abbrev pub walk : (ℕ → Option Letter) → (count first : ℕ) → List Message
+abbrev pub walk : (ℕ → Option StoredMessage) → (count first : ℕ) → List Message
 walk f zero n = []
 walk f (suc k) n = message_of n (f n) ∷ walk f k (next_of (f n))
 
 -- the messages at a port, the first of its queue first
-abbrev pub messages_in : (ℕ → Option Letter) → Port → List Message
+abbrev pub messages_in : (ℕ → Option StoredMessage) → Port → List Message
 messages_in f port = walk f port.queue.length port.queue.first
 
 -- ---- what is kept, as mail and names
 
 unfoldable pub mail_of : PortsOf → Mail
 mail_of x = record {
-  at = λ p. option_map (messages_in (letter_at x)) (port_at x p);
-  kept = λ n. held_of n (letter_at x n);
+  at = λ p. option_map (messages_in (stored_at x)) (port_at x p);
+  kept = λ n. held_of n (stored_at x n);
   made = x.sent;
 }
 
@@ -196,12 +196,12 @@ abbrev pub IsQueuedIn : ℕ → Place → Type 0
 IsQueuedIn p (Queued q n) = q.0 ≡ p
 IsQueuedIn p Held = ⊥
 
-abbrev pub IsQueued : ℕ → Option Letter → Type 0
+abbrev pub IsQueued : ℕ → Option StoredMessage → Type 0
 IsQueued p (Some l) = IsQueuedIn p l.place
 IsQueued p None = ⊥
 
 -- none of so many messages, from one number on, is this one
-abbrev pub IsApart : (ℕ → Option Letter) → (other count first : ℕ) → Type 0
+abbrev pub IsApart : (ℕ → Option StoredMessage) → (other count first : ℕ) → Type 0
 IsApart f m zero n = Unit {0}
 IsApart f m (suc k) n = (n ≢ m) × IsApart f m k (next_of (f n))
 
@@ -211,13 +211,13 @@ IsEnd zero n last = n ≡ last
 IsEnd (suc k) n last = n ≢ last
 
 -- so many messages, from one number on, are queued at a port, each of them once
-abbrev pub IsLine : (ℕ → Option Letter) → (port last count first : ℕ) → Type 0
+abbrev pub IsLine : (ℕ → Option StoredMessage) → (port last count first : ℕ) → Type 0
 IsLine f p last zero n = Unit {0}
 IsLine f p last (suc k) n =
     IsQueued p (f n) × IsApart f n k (next_of (f n)) × IsEnd k n last × IsLine f p last k (next_of (f n))
 
 -- a queue at a port
-abbrev pub IsQueue : (ℕ → Option Letter) → ℕ → Queue → Type 0
+abbrev pub IsQueue : (ℕ → Option StoredMessage) → ℕ → Queue → Type 0
 IsQueue f p queue = IsLine f p queue.last queue.length queue.first
 
 -- no two live ports have one name
@@ -226,24 +226,24 @@ NamesDiffer x =
     (name : List ℕ) (p q : ℕ) → has_name name (x.names p) ≡ true → has_name name (x.names q) ≡ true → p ≡ q
 
 -- ports have numbers from 1 to those made, and each has its queue
-abbrev pub PortIsKept : (ℕ → Option Letter) → (made p : ℕ) → Option Port → Type 0
+abbrev pub PortIsKept : (ℕ → Option StoredMessage) → (made p : ℕ) → Option Port → Type 0
 PortIsKept f made p o = IfSome o (λ port. (0 < p) × (p ≤ made) × IsQueue f p port.queue)
 
 -- messages have numbers from 1 to those sent, and a port for a reply has a number
-abbrev pub LetterIsKept : (sent n : ℕ) → Option Letter → Type 0
-LetterIsKept sent n o = IfSome o (λ l. (0 < n) × (n ≤ sent) × IfSome l.reply (λ p. p.0 ≢ 0))
+abbrev pub StoredMessageIsKept : (sent n : ℕ) → Option StoredMessage → Type 0
+StoredMessageIsKept sent n o = IfSome o (λ l. (0 < n) × (n ≤ sent) × IfSome l.reply (λ p. p.0 ≢ 0))
 
 -- what holds of ports and messages at every moment
 pub record PortsAreKept (x : PortsOf) : Type 0 where
-  pub ports : (p : ℕ) → PortIsKept (letter_at x) x.made p (port_at x p)
-  pub letters : (n : ℕ) → LetterIsKept x.sent n (letter_at x n)
+  pub ports : (p : ℕ) → PortIsKept (stored_at x) x.made p (port_at x p)
+  pub stored_messages : (n : ℕ) → StoredMessageIsKept x.sent n (stored_at x n)
   -- the numbers of ports fit
   pub numbers : x.made ≤ 4294967295
   -- how many there are, and that they are not too many
   pub port_count : number_known (port_at x) x.made ≡ length x.ports
-  pub letter_count : messages (mail_of x) x.made ≡ length x.letters
+  pub stored_count : messages (mail_of x) x.made ≡ length x.stored_messages
   pub few_ports : length x.ports ≤ port_limit
-  pub few_letters : length x.letters ≤ message_limit
+  pub few_stored_messages : length x.stored_messages ≤ message_limit
   pub names : NamesDiffer (names_of x)
 
 -- ---- operands and answers

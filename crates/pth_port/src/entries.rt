@@ -7,7 +7,7 @@ ghost use Rattle.pth_base.specs.Table.{put};
 ghost use Rattle.pth_port.specs.Mail.{has_name};
 ghost use Rattle.pth_port.specs.Ports.{entry_at, with_entry, with_queue, queue_in, first_named};
 
-use crate::letters::Queue;
+use crate::stored_messages::Queue;
 use pth_base::memory::OutOfMemory;
 use pth_base::name::Name;
 use std::collections::BTreeMap;

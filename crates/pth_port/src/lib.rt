@@ -7,5 +7,5 @@
 #![tactic(auto)]
 
 mod entries;
-mod letters;
 pub mod ports;
+mod stored_messages;

@@ -7,9 +7,9 @@ ghost use Rattle.pth_port.specs.Mail.{Message, message_limit, messages, messages
 ghost use Rattle.pth_port.specs.Ports.{mail_of, names_of, message, reply_number, port_number, with_held, without_held, first_message, first_held, settled, gone_on, without_port, answer_as, NumbersWithMemory};
 
 use crate::entries::{Port, add_port, port_named, queue_of, remove_port, set_queue};
-use crate::letters::{
-    Letter, Place, Queue, add_last, add_letter, clear_reply, first_of, letter_of, remove_letter,
-    rewrite, set_place,
+use crate::stored_messages::{
+    Place, Queue, StoredMessage, add_last, clear_reply, first_of, remove_stored, rewrite,
+    set_place, store_message, stored_of,
 };
 use pth_base::errno::Errno;
 use pth_base::ids::{MsgId, PortId};
@@ -31,7 +31,7 @@ pub const MOST_MESSAGES: usize = 65536;
 pub struct Ports {
     ports: BTreeMap<u32, Port>,
     // Those that are queued, and those that are held.
-    letters: HashMap<u64, Letter>,
+    stored_messages: HashMap<u64, StoredMessage>,
     made: u32,
     sent: u64,
 }
@@ -42,10 +42,10 @@ impl Model for Ports {
     ghost Value = { PortsOf };
 
     ghost view = { λ a.
-        record { ports = a.ports.entries; letters = a.letters.entries; made = a.made; sent = a.sent } };
+        record { ports = a.ports.entries; stored_messages = a.stored_messages.entries; made = a.made; sent = a.sent } };
 
     ghost invariant = { λ a. PortsAreKept
-        (record { ports = a.ports.entries; letters = a.letters.entries; made = a.made; sent = a.sent }) };
+        (record { ports = a.ports.entries; stored_messages = a.stored_messages.entries; made = a.made; sent = a.sent }) };
 }
 
 // By hand, so that letting one go is one call in each proof.
@@ -53,7 +53,7 @@ impl Drop for Ports {
     fn drop(self) {
         let Ports {
             ports: _,
-            letters: _,
+            stored_messages: _,
             made: _,
             sent: _,
         } = self;
@@ -68,7 +68,7 @@ impl Ports {
     {
         Ports {
             ports: BTreeMap::new(alloc),
-            letters: HashMap::new(alloc),
+            stored_messages: HashMap::new(alloc),
             made: 0,
             sent: 0,
         }
@@ -189,16 +189,16 @@ impl Ports {
         ensures names { names_of self.new ≡ names_of self.old }
         ensures refused { OnErr result (self.new ≡ self.old) }
     {
-        if self.letters.len() >= MOST_MESSAGES {
+        if self.stored_messages.len() >= MOST_MESSAGES {
             return Err(Refusal::Fail(Errno::EAGAIN));
         }
         let n = number_after(self.sent)?;
-        let letter = Letter {
+        let stored = StoredMessage {
             value,
             reply,
             place: Place::Held,
         };
-        add_letter(&mut self.letters, n, letter)?;
+        store_message(&mut self.stored_messages, n, stored)?;
         self.sent = n;
         Ok(n)
     }
@@ -212,10 +212,10 @@ impl Ports {
     {
         match queue_of(&self.ports, p.0) {
             Some(queue) => {
-                let queue = add_last(&mut self.letters, queue, p, n);
+                let queue = add_last(&mut self.stored_messages, queue, p, n);
                 set_queue(&mut self.ports, p.0, queue);
             }
-            None => remove_letter(&mut self.letters, n),
+            None => remove_stored(&mut self.stored_messages, n),
         }
     }
 
@@ -226,7 +226,7 @@ impl Ports {
         ensures mail { mail_of self.new ≡ without_held n (mail_of self.old) }
         ensures names { names_of self.new ≡ names_of self.old }
     {
-        remove_letter(&mut self.letters, n);
+        remove_stored(&mut self.stored_messages, n);
     }
 
     // A held message has another value, and no port for its reply.
@@ -236,7 +236,7 @@ impl Ports {
             ≡ with_held (record { number = n; value = value; reply = 0 }) (mail_of self.old) }
         ensures names { names_of self.new ≡ names_of self.old }
     {
-        rewrite(&mut self.letters, n, value);
+        rewrite(&mut self.stored_messages, n, value);
     }
 
     // A held message has no port for its reply.
@@ -246,11 +246,11 @@ impl Ports {
             → mail_of self.new ≡ with_held (record m { reply = 0 }) (mail_of self.old) }
         ensures names { names_of self.new ≡ names_of self.old }
     {
-        clear_reply(&mut self.letters, n);
+        clear_reply(&mut self.stored_messages, n);
     }
 
     // The first message of a port is held from now on. The answer is that message, with its number.
-    fn hold_first(&mut self, p: PortId) -> Option<(u64, Letter)>
+    fn hold_first(&mut self, p: PortId) -> Option<(u64, StoredMessage)>
         ensures first { option_map (λ (t : _). message t.0 t.1) result
             ≡ first_message (messages_of ((mail_of self.old).at p.0)) }
         ensures mail { mail_of self.new
@@ -261,21 +261,21 @@ impl Ports {
         ensures refused { IfNone result (self.new ≡ self.old) }
     {
         let queue = queue_of(&self.ports, p.0)?;
-        let (n, letter) = first_of(&self.letters, queue)?;
-        set_place(&mut self.letters, n, Place::Held);
-        let queue = queue.without_first(letter.place.next());
+        let (n, stored) = first_of(&self.stored_messages, queue)?;
+        set_place(&mut self.stored_messages, n, Place::Held);
+        let queue = queue.without_first(stored.place.next());
         set_queue(&mut self.ports, p.0, queue);
-        Some((n, letter))
+        Some((n, stored))
     }
 
     // A message that was taken is held only where it has a port for its reply.
-    fn settle(&mut self, n: u64, letter: Letter)
-        requires held { (mail_of self.old).kept n ≡ Some (message n letter) }
-        requires some { IfSome letter.reply (λ p. p.0 ≢ 0) }
-        ensures mail { mail_of self.new ≡ settled (message n letter) (mail_of self.old) }
+    fn settle(&mut self, n: u64, stored: StoredMessage)
+        requires held { (mail_of self.old).kept n ≡ Some (message n stored) }
+        requires some { IfSome stored.reply (λ p. p.0 ≢ 0) }
+        ensures mail { mail_of self.new ≡ settled (message n stored) (mail_of self.old) }
         ensures names { names_of self.new ≡ names_of self.old }
     {
-        match letter.reply {
+        match stored.reply {
             Some(_) => {}
             None => self.drop_held(n),
         }
@@ -289,9 +289,9 @@ impl Ports {
         ensures none { IfNone result
             (is_live (mail_of self.now) (reply_port ((mail_of self.now).kept n)) ≡ false) }
     {
-        let letter = letter_of(&self.letters, n)?;
-        if letter.place.is_held() {
-            letter.reply
+        let stored = stored_of(&self.stored_messages, n)?;
+        if stored.place.is_held() {
+            stored.reply
         } else {
             None
         }
@@ -299,12 +299,12 @@ impl Ports {
 
     // A held message that was queued at a port that is closed goes last to the port for its reply, and has none from now on. It
     // ceases where that is none, is gone or is the one that is closed.
-    fn send_back(&mut self, n: u64, letter: Letter, closed: PortId)
-        requires { (mail_of self.old).kept n ≡ Some (message n letter) }
-        ensures mail { mail_of self.new ≡ gone_on closed.0 (message n letter) (mail_of self.old) }
+    fn send_back(&mut self, n: u64, stored: StoredMessage, closed: PortId)
+        requires { (mail_of self.old).kept n ≡ Some (message n stored) }
+        ensures mail { mail_of self.new ≡ gone_on closed.0 (message n stored) (mail_of self.old) }
         ensures names { names_of self.new ≡ names_of self.old }
     {
-        match letter.reply {
+        match stored.reply {
             Some(port) if port.0 != closed.0 => {
                 self.clear_held(n);
                 self.send(n, port);
@@ -321,8 +321,8 @@ impl Ports {
         ensures live { is_live (mail_of self.new) port.0 ≡ is_live (mail_of self.old) port.0 }
         ensures names { names_of self.new ≡ names_of self.old }
     {
-        while let Some((n, letter)) = self.hold_first(port) {
-            self.send_back(n, letter, port);
+        while let Some((n, stored)) = self.hold_first(port) {
+            self.send_back(n, stored, port);
         }
     }
 
@@ -371,11 +371,11 @@ impl Ports {
         let Some(port) = self.named(p) else {
             return Err(Errno::EINVAL);
         };
-        let Some((n, letter)) = self.hold_first(port) else {
+        let Some((n, stored)) = self.hold_first(port) else {
             return Err(Errno::ENOENT);
         };
-        self.settle(n, letter);
-        Ok((MsgId(n), letter.value))
+        self.settle(n, stored);
+        Ok((MsgId(n), stored.value))
     }
 
     /// `pth_msgport_reply`: a held message is last at the port for its reply, with a value and without such a port from now on.

@@ -10,7 +10,7 @@ use Rattle.pth_model.specs.State.{State, main}
 use Rattle.pth_world.specs.WellFormed.{MayAwaitAs}
 use Rattle.pth_waits.specs.Io.{first_awaited}
 use Rattle.pth_waits.specs.Verdicts.{NeverBlocks}
-use Rattle.pth_sched.specs.Mild.{is_mild}
+use Rattle.pth_sched.specs.NonWaking.{is_non_waking}
 
 -- a call that never blocks its thread is plain where it is none of these
 pub is_plain_call : {P S H : Type 0} (s : State P S H) (c : Call) → NeverBlocks P S H c → c ≢ call.Kill → ((n : ℤ) → c ≢ call.Yield n) → c ≢ call.Plain → ((v : ℤ) → c ≢ call.Note v) → ((v : ℤ) → c ≢ call.CleanupPop v) → ((o h v : ℤ) → c ≢ call.Once o h v)
@@ -46,46 +46,46 @@ is_plain_call s (call.Abort n) never no_kill no_yield no_plain no_note no_pop no
 is_plain_call s call.CancelPoint never no_kill no_yield no_plain no_note no_pop no_once no_cancel no_abort no_point = absurd (no_point refl)
 is_plain_call s c never no_kill no_yield no_plain no_note no_pop no_once no_cancel no_abort no_point = refl
 
--- a call that is mild whatever it comes to never blocks its thread
-mild_away : (c : Call) → is_mild c ≡ true → (t : ℕ) (a : Awaits) → MayAwaitAs t c a → ⊥
-mild_away (call.Join n) mild t a may = cc mild
-mild_away (call.Exit v) mild t a may = cc mild
-mild_away (call.Nap n) mild t a may = cc mild
-mild_away (call.Usleep n) mild t a may = cc mild
-mild_away (call.Sleep n) mild t a may = cc mild
-mild_away (call.Wait e) mild t a may = cc mild
-mild_away (call.MutexAcquire m v e) mild t a may = cc mild
-mild_away (call.RwAcquire l write v e) mild t a may = cc mild
-mild_away (call.BarrierReach b) mild t a may = cc mild
-mild_away (call.CondAwait x m e) mild t a may = cc mild
-mild_away (call.Read g n) mild t a may = cc mild
-mild_away (call.ReadEv g n e) mild t a may = cc mild
-mild_away (call.Write g bytes) mild t a may = cc mild
-mild_away (call.WriteEv g bytes e) mild t a may = cc mild
-mild_away (call.Accept g) mild t a may = cc mild
-mild_away (call.AcceptEv g e) mild t a may = cc mild
-mild_away (call.Connect g) mild t a may = cc mild
-mild_away (call.ConnectEv g e) mild t a may = cc mild
-mild_away (call.Select r w x l) mild t a may = cc mild
-mild_away (call.SelectEv r w x l e) mild t a may = cc mild
-mild_away c mild t a may = may
+-- a call that is non-waking whatever it comes to never blocks its thread
+non_waking_away : (c : Call) → is_non_waking c ≡ true → (t : ℕ) (a : Awaits) → MayAwaitAs t c a → ⊥
+non_waking_away (call.Join n) non_waking t a may = cc non_waking
+non_waking_away (call.Exit v) non_waking t a may = cc non_waking
+non_waking_away (call.Nap n) non_waking t a may = cc non_waking
+non_waking_away (call.Usleep n) non_waking t a may = cc non_waking
+non_waking_away (call.Sleep n) non_waking t a may = cc non_waking
+non_waking_away (call.Wait e) non_waking t a may = cc non_waking
+non_waking_away (call.MutexAcquire m v e) non_waking t a may = cc non_waking
+non_waking_away (call.RwAcquire l write v e) non_waking t a may = cc non_waking
+non_waking_away (call.BarrierReach b) non_waking t a may = cc non_waking
+non_waking_away (call.CondAwait x m e) non_waking t a may = cc non_waking
+non_waking_away (call.Read g n) non_waking t a may = cc non_waking
+non_waking_away (call.ReadEv g n e) non_waking t a may = cc non_waking
+non_waking_away (call.Write g bytes) non_waking t a may = cc non_waking
+non_waking_away (call.WriteEv g bytes e) non_waking t a may = cc non_waking
+non_waking_away (call.Accept g) non_waking t a may = cc non_waking
+non_waking_away (call.AcceptEv g e) non_waking t a may = cc non_waking
+non_waking_away (call.Connect g) non_waking t a may = cc non_waking
+non_waking_away (call.ConnectEv g e) non_waking t a may = cc non_waking
+non_waking_away (call.Select r w x l) non_waking t a may = cc non_waking
+non_waking_away (call.SelectEv r w x l e) non_waking t a may = cc non_waking
+non_waking_away c non_waking t a may = may
 
-mild_elsewhere : {P S H : Type 0} (c : Call) → is_mild c ≡ true → (s : State P S H) → first_awaited s c ≡ None
-mild_elsewhere (call.Read g n) mild s = absurd (cc mild)
-mild_elsewhere (call.ReadEv g n e) mild s = absurd (cc mild)
-mild_elsewhere (call.Write g bytes) mild s = absurd (cc mild)
-mild_elsewhere (call.WriteEv g bytes e) mild s = absurd (cc mild)
-mild_elsewhere (call.Accept g) mild s = absurd (cc mild)
-mild_elsewhere (call.AcceptEv g e) mild s = absurd (cc mild)
-mild_elsewhere (call.Connect g) mild s = absurd (cc mild)
-mild_elsewhere (call.ConnectEv g e) mild s = absurd (cc mild)
-mild_elsewhere (call.Select r w x l) mild s = absurd (cc mild)
-mild_elsewhere (call.SelectEv r w x l e) mild s = absurd (cc mild)
-mild_elsewhere c mild s = refl
+non_waking_elsewhere : {P S H : Type 0} (c : Call) → is_non_waking c ≡ true → (s : State P S H) → first_awaited s c ≡ None
+non_waking_elsewhere (call.Read g n) non_waking s = absurd (cc non_waking)
+non_waking_elsewhere (call.ReadEv g n e) non_waking s = absurd (cc non_waking)
+non_waking_elsewhere (call.Write g bytes) non_waking s = absurd (cc non_waking)
+non_waking_elsewhere (call.WriteEv g bytes e) non_waking s = absurd (cc non_waking)
+non_waking_elsewhere (call.Accept g) non_waking s = absurd (cc non_waking)
+non_waking_elsewhere (call.AcceptEv g e) non_waking s = absurd (cc non_waking)
+non_waking_elsewhere (call.Connect g) non_waking s = absurd (cc non_waking)
+non_waking_elsewhere (call.ConnectEv g e) non_waking s = absurd (cc non_waking)
+non_waking_elsewhere (call.Select r w x l) non_waking s = absurd (cc non_waking)
+non_waking_elsewhere (call.SelectEv r w x l e) non_waking s = absurd (cc non_waking)
+non_waking_elsewhere c non_waking s = refl
 
-mild_unawaited : (c : Call) → is_mild c ≡ true → is_await c ≡ false
-mild_unawaited (call.CondAwait x m e) mild = absurd (cc mild)
-mild_unawaited c mild = refl
+non_waking_unawaited : (c : Call) → is_non_waking c ≡ true → is_await c ≡ false
+non_waking_unawaited (call.CondAwait x m e) non_waking = absurd (cc non_waking)
+non_waking_unawaited c non_waking = refl
 
-pub mild_never : {P S H : Type 0} (c : Call) → is_mild c ≡ true → NeverBlocks P S H c
-mild_never c mild = record { away = mild_away c mild; elsewhere = mild_elsewhere c mild; unawaited = mild_unawaited c mild }
+pub non_waking_never : {P S H : Type 0} (c : Call) → is_non_waking c ≡ true → NeverBlocks P S H c
+non_waking_never c non_waking = record { away = non_waking_away c non_waking; elsewhere = non_waking_elsewhere c non_waking; unawaited = non_waking_unawaited c non_waking }

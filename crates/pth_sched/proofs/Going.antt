@@ -84,7 +84,7 @@ module _ {P S H : Type 0} where
     runs = refl;
     made = gives_none no_numbers w m none;
     ranks = record {
-      under = λ roof low under. subst (λ (x : QueuesOf). IsUnder roof x.ready) (sym queues) under;
+      under = λ bound low under. subst (λ (x : QueuesOf). IsUnder bound x.ready) (sym queues) under;
       fresh = subst (λ (x : QueuesOf). length x.new ≤ length w.threads.queues.new + 0) (sym queues) (omega arith);
     };
     preferred = ap (λ (x : Scheduler). x.preferred) scheduler;

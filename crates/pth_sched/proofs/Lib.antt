@@ -1,7 +1,7 @@
 pub mod Begins
-pub mod CalmSteps
-pub mod CalmWorlds
-pub mod Calming
+pub mod QuiescentSteps
+pub mod QuiescentWorlds
+pub mod Quiescing
 pub mod Counting
 pub mod Cutting
 pub mod Endings
@@ -11,11 +11,11 @@ pub mod Keeping
 pub mod Known
 pub mod Listing
 pub mod Living
-pub mod Mildness
+pub mod NonWakingCalls
 pub mod Moving
 pub mod Parts
 pub mod Readying
-pub mod Roofs
+pub mod UpperBounds
 pub mod RunLaws
 pub mod Showing
 pub mod Stopping

@@ -28,7 +28,7 @@ use Rattle.pth_sched.specs.Passing.{OnlyWakes}
 use Rattle.pth_sched.specs.Running.{Stands, Makes, Keeps}
 use Rattle.pth_sched.proofs.Going.{still_going}
 use Rattle.pth_sched.proofs.Keeping.{gives_rest}
-use Rattle.pth_sched.proofs.Roofs.{still_roofed}
+use Rattle.pth_sched.proofs.UpperBounds.{still_bounded}
 
 module _ {P S H : Type 0} where
   -- ---- where nothing is new or ready
@@ -55,7 +55,7 @@ module _ {P S H : Type 0} where
         let running = ap (λ (k : Scheduler). k.running) rest.scheduler in
         record {
           going = still_going m v keeps.going wakes.whole running (ap (λ (k : Scheduler). k.preferred) rest.scheduler) (gives_rest m.world v.world rest wakes.made) wakes.stays turn;
-          ranks = still_roofed m v keeps.ranks wakes.ranks running turn;
+          ranks = still_bounded m v keeps.ranks wakes.ranks running turn;
         }
 
     -- it is later, and nothing else has changed
@@ -67,7 +67,7 @@ module _ {P S H : Type 0} where
         let gives : GivesNone m.world v.world = λ k. ap (λ (w : WorldOf P S H). made w k) same in
         record {
           going = still_going m v keeps.going whole running named gives (λ u. subst (λ (x : ThreadsBySlot S). WaitsToRun x u) (sym threads)) turn;
-          ranks = still_roofed m v keeps.ranks (subst (λ (x : ThreadsBySlot S). KeepsRanks 0 m.world.threads x) (sym threads) (ranks_none m.world.threads)) running turn;
+          ranks = still_bounded m v keeps.ranks (subst (λ (x : ThreadsBySlot S). KeepsRanks 0 m.world.threads x) (sym threads) (ranks_none m.world.threads)) running turn;
         }
 
   -- ---- time moves

@@ -23,29 +23,29 @@ use Rattle.pth_world.specs.Sound.{IsSound, IsKnown}
 use Rattle.pth_world.specs.WellFormed.{IsIn}
 use Rattle.pth_world.specs.Ranks.{IsUnder, greatest_return}
 use Rattle.pth_world.proofs.QueueReads.{once_thread}
-use Rattle.pth_world.proofs.Ranks.{under-roof, under-insert, under-delete}
+use Rattle.pth_world.proofs.Ranks.{under-bound, under-insert, under-delete}
 use Rattle.pth_sched.specs.Passing.{HasRoom}
 use Rattle.pth_sched.proofs.Keeping.{new_shorter, some_new}
 
 -- ---- ranks
 
--- the top is one above the roof at most
-pub top_under : (top roof : ℕ) (rows : List Ranked) → top ≤ 20 → greatest_return ≤ roof → IsUnder roof rows → favour_top top rows ≤ℤ pos (roof + 1)
-top_under top roof [] most low under = omega (arith, ints)
-top_under top roof (x ∷ xs) most low under =
-    let first : x.rank ≤ℤ pos roof = All-head (λ (r : Ranked). r.rank ≤ℤ pos roof) x xs under in
+-- the top is one above the bound at most
+pub top_under : (top bound : ℕ) (rows : List Ranked) → top ≤ 20 → greatest_return ≤ bound → IsUnder bound rows → favour_top top rows ≤ℤ pos (bound + 1)
+top_under top bound [] most low under = omega (arith, ints)
+top_under top bound (x ∷ xs) most low under =
+    let first : x.rank ≤ℤ pos bound = All-head (λ (r : Ranked). r.rank ≤ℤ pos bound) x xs under in
     omega (arith, ints)
 
 at_most : (rank : ℤ) (a : ℕ) → a ≤ 2 ^ 40 → rank ≤ℤ pos a → rank ≤ℤ pos (2 ^ 40)
 at_most rank a low h = grind (arith, ints)
 
 -- a new thread's rank is one that a queue takes
-pub rank_room : {S : Type 0} (w : ThreadsBySlot S) (t : ℕ) (rank : ℤ) → IsKnown w t → IsIn queues.New w t → HasRoom w.queues → ((roof : ℕ) → greatest_return ≤ roof → IsUnder roof w.queues.ready → rank ≤ℤ pos (roof + 1)) → rank ≤ℤ pos (2 ^ 40)
+pub rank_room : {S : Type 0} (w : ThreadsBySlot S) (t : ℕ) (rank : ℤ) → IsKnown w t → IsIn queues.New w t → HasRoom w.queues → ((bound : ℕ) → greatest_return ≤ bound → IsUnder bound w.queues.ready → rank ≤ℤ pos (bound + 1)) → rank ≤ℤ pos (2 ^ 40)
 rank_room w t rank known stands room low =
-    let at = low room.roof room.low room.under in
+    let at = low room.bound room.low room.under in
     let some = some_new w t known stands in
-    let few : room.roof + 1 ≤ 2 ^ 40 = (let f = room.few in omega arith) in
-    at_most rank (room.roof + 1) few at
+    let few : room.bound + 1 ≤ 2 ^ 40 = (let f = room.few in omega arith) in
+    at_most rank (room.bound + 1) few at
 
 module _ {S : Type 0} (w v : ThreadsBySlot S) (t : ℕ) (rank : ℤ) (known : IsKnown w t) (stands : IsIn queues.New w t) (is : IfSome (slot_of w.records t) (λ u. v.queues ≡ entered queues.Ready rank u (without u w.queues))) where
   at_slot : (Q : Type 0) → ((u : ℕ) → v.queues ≡ entered queues.Ready rank u (without u w.queues) → Q) → Q
@@ -55,44 +55,44 @@ module _ {S : Type 0} (w v : ThreadsBySlot S) (t : ℕ) (rank : ℤ) (known : Is
       by_slot (Some u) some h = f u h
       by_slot None some h = absurd (cc some)
 
-  -- the roof is one higher
-  pub ready_under : (roof : ℕ) → rank ≤ℤ pos (roof + 1) → IsUnder roof w.queues.ready → IsUnder (roof + 1) v.queues.ready
-  ready_under roof low under = at_slot (IsUnder (roof + 1) v.queues.ready) (λ u e.
-      subst (λ (x : QueuesOf). IsUnder (roof + 1) x.ready) (sym e)
-      (under-insert (roof + 1) (record { rank = rank; holder = u }) (delete u w.queues.ready) low (under-delete (roof + 1) u w.queues.ready (under-roof roof (roof + 1) w.queues.ready (omega arith) under))))
+  -- the bound is one higher
+  pub ready_under : (bound : ℕ) → rank ≤ℤ pos (bound + 1) → IsUnder bound w.queues.ready → IsUnder (bound + 1) v.queues.ready
+  ready_under bound low under = at_slot (IsUnder (bound + 1) v.queues.ready) (λ u e.
+      subst (λ (x : QueuesOf). IsUnder (bound + 1) x.ready) (sym e)
+      (under-insert (bound + 1) (record { rank = rank; holder = u }) (delete u w.queues.ready) low (under-delete (bound + 1) u w.queues.ready (under-bound bound (bound + 1) w.queues.ready (omega arith) under))))
 
   pub some_ready : 0 < length v.queues.ready
   some_ready = at_slot (0 < length v.queues.ready) (λ u e. subst (λ (x : QueuesOf). 0 < length x.ready) (sym e) (let more = length-insert (record { rank = rank; holder = u }) (delete u w.queues.ready) in omega (arith, more)))
 
   -- there is room for the others
-  pub room_next : HasRoom w.queues → ((roof : ℕ) → greatest_return ≤ roof → IsUnder roof w.queues.ready → rank ≤ℤ pos (roof + 1)) → HasRoom v.queues
+  pub room_next : HasRoom w.queues → ((bound : ℕ) → greatest_return ≤ bound → IsUnder bound w.queues.ready → rank ≤ℤ pos (bound + 1)) → HasRoom v.queues
   room_next room low = record {
-    roof = room.roof + 1;
+    bound = room.bound + 1;
     low = (let l = room.low in omega arith);
-    under = ready_under room.roof (low room.roof room.low room.under) room.under;
+    under = ready_under room.bound (low room.bound room.low room.under) room.under;
     few = (let fewer = new_shorter w v t rank known stands is in let f = room.few in omega arith);
   }
 
--- from threads to others: the roof is higher by as much as the new threads are fewer, at most
-pub record Rises {S : Type 0} (w v : ThreadsBySlot S) (roof : ℕ) : Type 0 where
+-- from threads to others: the bound is higher by as much as the new threads are fewer, at most
+pub record Rises {S : Type 0} (w v : ThreadsBySlot S) (bound : ℕ) : Type 0 where
   pub more : ℕ
-  pub under : IsUnder (roof + more) v.queues.ready
+  pub under : IsUnder (bound + more) v.queues.ready
   pub few : more + length v.queues.new ≤ length w.queues.new
 
 module _ {S : Type 0} where
-  pub rises_none : (w : ThreadsBySlot S) (roof : ℕ) → IsUnder roof w.queues.ready → Rises w w roof
-  rises_none w roof under = record { more = 0; under = under-roof roof (roof + 0) w.queues.ready (omega arith) under; few = omega arith }
+  pub rises_none : (w : ThreadsBySlot S) (bound : ℕ) → IsUnder bound w.queues.ready → Rises w w bound
+  rises_none w bound under = record { more = 0; under = under-bound bound (bound + 0) w.queues.ready (omega arith) under; few = omega arith }
 
-  pub rises_next : (u w v : ThreadsBySlot S) (t : ℕ) (rank : ℤ) (roof : ℕ) → IsKnown w t → IsIn queues.New w t → IfSome (slot_of w.records t) (λ u. v.queues ≡ entered queues.Ready rank u (without u w.queues)) → greatest_return ≤ roof
-      → ((top : ℕ) → greatest_return ≤ top → IsUnder top w.queues.ready → rank ≤ℤ pos (top + 1)) → Rises u w roof → Rises u v roof
-  rises_next u w v t rank roof known stands is low at_most r = record {
+  pub rises_next : (u w v : ThreadsBySlot S) (t : ℕ) (rank : ℤ) (bound : ℕ) → IsKnown w t → IsIn queues.New w t → IfSome (slot_of w.records t) (λ u. v.queues ≡ entered queues.Ready rank u (without u w.queues)) → greatest_return ≤ bound
+      → ((top : ℕ) → greatest_return ≤ top → IsUnder top w.queues.ready → rank ≤ℤ pos (top + 1)) → Rises u w bound → Rises u v bound
+  rises_next u w v t rank bound known stands is low at_most r = record {
     more = r.more + 1;
-    under = under-roof (roof + r.more + 1) (roof + (r.more + 1)) v.queues.ready (omega arith) (ready_under w v t rank known stands is (roof + r.more) (at_most (roof + r.more) (omega (arith, low)) r.under) r.under);
+    under = under-bound (bound + r.more + 1) (bound + (r.more + 1)) v.queues.ready (omega arith) (ready_under w v t rank known stands is (bound + r.more) (at_most (bound + r.more) (omega (arith, low)) r.under) r.under);
     few = (let fewer = new_shorter w v t rank known stands is in let f = r.few in omega arith);
   }
 
-  pub rises_all : (w v : ThreadsBySlot S) (roof : ℕ) → Rises w v roof → IsUnder (roof + length w.queues.new) v.queues.ready
-  rises_all w v roof r = under-roof (roof + r.more) (roof + length w.queues.new) v.queues.ready (let f = r.few in omega arith) r.under
+  pub rises_all : (w v : ThreadsBySlot S) (bound : ℕ) → Rises w v bound → IsUnder (bound + length w.queues.new) v.queues.ready
+  rises_all w v bound r = under-bound (bound + r.more) (bound + length w.queues.new) v.queues.ready (let f = r.few in omega arith) r.under
 
 -- ---- the order
 

@@ -24,7 +24,7 @@ use Rattle.pth_world.specs.World.{WorldOf}
 use Rattle.pth_waits.specs.Dormant.{IsDormant, StaysPending, is_left_to_join}
 use Rattle.pth_waits.proofs.Dormancy.{dormant_stays, looked_same}
 use Rattle.pth_world.proofs.Standing.{all_stand, of_standing, place_in}
-use Rattle.pth_sched.specs.Calm.{is_among_waiting, waits_in}
+use Rattle.pth_sched.specs.Quiescence.{is_among_waiting, waits_in}
 
 -- ---- who stands in the waiting queue waits, and the reverse
 

@@ -1,5 +1,5 @@
-pub mod Calm
+pub mod Quiescence
 pub mod MachineOf
-pub mod Mild
+pub mod NonWaking
 pub mod Passing
 pub mod Running

@@ -33,13 +33,13 @@ abbrev pub open_by : Option ℕ → Option ℕ → ℕ
 open_by None None = 0
 open_by g r = 1
 
--- No rank of the ready queue is above a roof. A turn that is over lifts it by one, and so does each new thread that becomes
+-- No rank of the ready queue is above a bound. A turn that is over lifts it by one, and so does each new thread that becomes
 -- ready: so it is bounded by the turns that began and the steps that were made.
-pub record IsRoofed {P S H : Type 0} (m : MachineOf P S H) : Type 0 where
-  pub roof : ℕ
-  pub low : greatest_return ≤ roof
-  pub under : IsUnder roof m.world.threads.queues.ready
-  pub few : roof + length m.world.threads.queues.new + open_by m.turn.gave m.world.scheduler.running ≤ greatest_return + m.turn.steps + m.turn.turns
+pub record HasUpperBound {P S H : Type 0} (m : MachineOf P S H) : Type 0 where
+  pub bound : ℕ
+  pub low : greatest_return ≤ bound
+  pub under : IsUnder bound m.world.threads.queues.ready
+  pub few : bound + length m.world.threads.queues.new + open_by m.turn.gave m.world.scheduler.running ≤ greatest_return + m.turn.steps + m.turn.turns
 
 -- how far a run to a number of steps is from its end: each part but the last comes nearer
 

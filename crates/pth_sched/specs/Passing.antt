@@ -36,7 +36,7 @@ pub record OnlyWakes {P S H : Type 0} (old new : WorldOf P S H) : Type 0 where
 
 -- the new threads can become ready one by one, each one rank above all others
 pub record HasRoom (qs : QueuesOf) : Type 0 where
-  pub roof : ℕ
-  pub low : greatest_return ≤ roof
-  pub under : IsUnder roof qs.ready
-  pub few : roof + length qs.new ≤ 2 ^ 40
+  pub bound : ℕ
+  pub low : greatest_return ≤ bound
+  pub under : IsUnder bound qs.ready
+  pub few : bound + length qs.new ≤ 2 ^ 40

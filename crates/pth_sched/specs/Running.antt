@@ -10,7 +10,7 @@ use Rattle.pth_model.specs.Run.{run, GoesUntil, stops_at, stops_or_closed, IsBet
 use Rattle.pth_laws.specs.RunLaws.{MeetsMarkLaws, MeetsRunLaws}
 use Rattle.pth_world.specs.Shows.{StandsFor}
 use Rattle.pth_base.specs.Cut.{IsCut}
-use Rattle.pth_sched.specs.MachineOf.{MachineOf, IsGoing, IsRoofed}
+use Rattle.pth_sched.specs.MachineOf.{MachineOf, IsGoing, HasUpperBound}
 
 -- The machine stands where a course is: its world stands for the state, it is in the same turn, and memory has not ended.
 -- So its ready queue is the order of the state's standings, with their ranks.
@@ -115,7 +115,7 @@ pub record IsBetweenTurns {P S H : Type 0} (m : MachineOf P S H) : Type 0 where
 -- what holds of a machine between two parts
 pub record Keeps {P S H : Type 0} (m : MachineOf P S H) : Type 0 where
   pub going : IsGoing m
-  pub ranks : IsRoofed m
+  pub ranks : HasUpperBound m
 
 -- what holds of it between two calls: no more steps were made than a machine makes, and as long as the run goes on, nobody has
 -- given up control where nobody runs

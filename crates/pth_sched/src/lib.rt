@@ -9,13 +9,13 @@
 #![tactic(auto)]
 
 pub mod begin;
-mod calm;
 pub mod laws;
 mod live;
 pub mod machine;
-mod mild;
 mod moments;
+mod non_waking;
 mod pass_room;
 mod passes;
+mod quiescence;
 mod schedule;
 mod turns;

@@ -11,7 +11,7 @@ ghost use Rattle.pth_threads.specs.Threads.{number_of, tid_at};
 ghost use Rattle.pth_waits.specs.Dormant.{after_now};
 ghost use Rattle.pth_world.specs.Shows.{Shows, StandsFor};
 ghost use Rattle.pth_world.specs.WellFormed.{WellFormed};
-ghost use Rattle.pth_sched.specs.Calm.{AreDormant};
+ghost use Rattle.pth_sched.specs.Quiescence.{AreDormant};
 
 use crate::moments::next_moment;
 use pth_base::ids::{Micros, Slot, Tid};

@@ -12,11 +12,11 @@ ghost use Rattle.pth_world.specs.Sound.{IsKnown};
 ghost use Rattle.pth_world.specs.WellFormed.{WellFormed};
 ghost use Rattle.pth_end.specs.Whole.{Whole};
 ghost use Rattle.pth_waits.specs.Dormant.{IsDormant, after_now};
-ghost use Rattle.pth_sched.specs.Calm.{AreDormant, Calms, CalmsBut, is_among_waiting};
+ghost use Rattle.pth_sched.specs.Quiescence.{AreDormant, IsKnownQuiescent, IsKnownQuiescentBut, is_among_waiting};
 ghost use Rattle.pth_sched.specs.Passing.{IsWaiting, OnlyWakes, WaitOnce};
 
-use crate::calm::Calm;
 use crate::pass_room::PassRoom;
+use crate::quiescence::Quiescence;
 use pth_base::ids::{MAIN, Micros, Tid};
 use pth_base::mark::Mark;
 use pth_base::marks::Marks;
@@ -117,51 +117,56 @@ fn own_dormant_until<P: Program>(w: &World<P>, t: Tid) -> Micros
 }
 
 // Until when no thread that waits is to wake, as far as it is known once thread t has given up control: of the others by what was
-// known, and else, if nothing stirred in this turn, by a look at all.
-fn known_until<P: Program>(w: &World<P>, room: &mut PassRoom, calm: Calm, t: Tid) -> Micros
+// known, and else, unless `dirty`, by a look at all.
+fn known_until<P: Program>(
+    w: &World<P>,
+    room: &mut PassRoom,
+    quiescence: Quiescence,
+    t: Tid,
+) -> Micros
     requires whole { WellFormed w.now }
-    requires calm { CalmsBut t.0 w.now calm.until }
+    requires quiescence { IsKnownQuiescentBut t.0 w.now quiescence.until }
     ensures dormant { (s : State P P.State P.Shared) → StandsFor w.now s → 0 < result → AreDormant s result }
-    ensures asked { (s : State P P.State P.Shared) → StandsFor w.now s → calm.until ≡ 0 → calm.stirred ≡ false → AreDormant s (after_now s.control) → now_of s.control < result }
-    ensures later { (s : State P P.State P.Shared) → StandsFor w.now s → now_of s.control < calm.until → IsDormant s (after_now s.control) t.0 → now_of s.control < result }
+    ensures asked { (s : State P P.State P.Shared) → StandsFor w.now s → quiescence.until ≡ 0 → quiescence.dirty ≡ false → AreDormant s (after_now s.control) → now_of s.control < result }
+    ensures later { (s : State P P.State P.Shared) → StandsFor w.now s → now_of s.control < quiescence.until → IsDormant s (after_now s.control) t.0 → now_of s.control < result }
     ensures same { room.new ≡ room.old }
 {
-    if calm.until == 0 {
-        return if calm.stirred {
+    if quiescence.until == 0 {
+        return if quiescence.dirty {
             0
         } else {
             room.dormant_until(w)
         };
     }
-    calm.until.min(own_dormant_until(w, t))
+    quiescence.until.min(own_dormant_until(w, t))
 }
 
-/// A pass at the end of the turn of thread t. If it is known that no thread is to wake, none is gone over. If it was asked in vain, it
-/// is not asked at the end of the next turn.
-pub fn pass_unless_calm<P: Program>(
+/// A pass at the end of the turn of thread t. If it is known that no thread is to wake, no thread is scanned. If the search for such a
+/// moment was in vain, the end of the next turn does not search.
+pub fn pass_unless_quiescent<P: Program>(
     w: &mut World<P>,
     room: &mut PassRoom,
-    calm: &mut Calm,
+    quiescence: &mut Quiescence,
     t: Tid,
     marks: &mut Marks,
 ) -> Result<(), OutOfMemory>
     requires whole { WellFormed w.old }
-    requires calm { CalmsBut t.0 w.old calm.old.until }
+    requires quiescence { IsKnownQuiescentBut t.0 w.old quiescence.old.until }
     ensures goes { LedTo (StandsFor w.old) (pass P.functions) w.new marks.old marks.new result }
     ensures only_wakes { OnOk result (OnlyWakes w.old w.new) }
-    ensures calm { Calms w.new calm.new.until }
+    ensures quiescence { IsKnownQuiescent w.new quiescence.new.until }
 {
-    let until = known_until(w, room, *calm, t);
+    let until = known_until(w, room, *quiescence, t);
     if w.time() < until && !w.is_alone(Tid(MAIN)) {
-        *calm = Calm {
+        *quiescence = Quiescence {
             until,
-            stirred: false,
+            dirty: false,
         };
         return Ok(());
     }
-    *calm = Calm {
+    *quiescence = Quiescence {
         until: 0,
-        stirred: calm.until == 0 && !calm.stirred,
+        dirty: quiescence.until == 0 && !quiescence.dirty,
     };
     pass(w, room, marks)
 }

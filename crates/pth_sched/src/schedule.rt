@@ -15,12 +15,12 @@ ghost use Rattle.pth_world.specs.Leading.{AllAwaitRightly, AwaitsRightly};
 ghost use Rattle.pth_world.specs.Shows.{Shows};
 ghost use Rattle.pth_world.specs.WellFormed.{WellFormed};
 ghost use Rattle.pth_end.specs.Whole.{Whole};
-ghost use Rattle.pth_sched.specs.MachineOf.{IsGoing, IsRoofed, machine_stops};
+ghost use Rattle.pth_sched.specs.MachineOf.{IsGoing, HasUpperBound, machine_stops};
 ghost use Rattle.pth_sched.specs.Running.{Stands, StandsAt, Keeps, Rests, Makes, GoesOn, BreaksOff, TurnGoesOn, TurnBreaksOff, IsBetweenTurns};
 
-use crate::calm::Calm;
 use crate::pass_room::PassRoom;
-use crate::passes::{pass, pass_unless_calm};
+use crate::passes::{pass, pass_unless_quiescent};
+use crate::quiescence::Quiescence;
 use crate::turns::{end_turn, go_on, next, ready_new};
 use pth_base::ids::{MAIN, Micros, Tid};
 use pth_base::mark::Mark;
@@ -39,7 +39,7 @@ use std::marker::Model;
 pub struct Schedule<P: Program> {
     room: PassRoom,
     world: World<P>,
-    calm: Calm,
+    quiescence: Quiescence,
     gave: Option<Tid>,
     turns: u64,
     steps: u64,
@@ -49,7 +49,7 @@ pub struct Schedule<P: Program> {
 impl<P: Program> Model for Schedule<P> {
     ghost use Rattle.std.specs.Prelude.{option_map};
     ghost use Rattle.pth_threads.specs.Threads.{number_of};
-    ghost use Rattle.pth_sched.specs.Calm.{Calms};
+    ghost use Rattle.pth_sched.specs.Quiescence.{IsKnownQuiescent};
     ghost use Rattle.pth_sched.specs.MachineOf.{MachineOf};
 
     ghost Value = { MachineOf P P.State P.Shared };
@@ -59,7 +59,7 @@ impl<P: Program> Model for Schedule<P> {
       turn = record { turns = m.turns; steps = m.steps; gave = option_map number_of m.gave; outcome = m.outcome };
     } };
 
-    ghost invariant = { λ m. Calms m.world m.calm.until };
+    ghost invariant = { λ m. IsKnownQuiescent m.world m.quiescence.until };
 }
 
 // By hand, so that letting one go is one call in each proof.
@@ -68,7 +68,7 @@ impl<P: Program> Drop for Schedule<P> {
         let Schedule {
             room: _,
             world: _,
-            calm: _,
+            quiescence: _,
             gave: _,
             turns: _,
             steps: _,
@@ -97,9 +97,9 @@ impl<P: Program> Schedule<P> {
         Ok(Schedule {
             room,
             world,
-            calm: Calm {
+            quiescence: Quiescence {
                 until: 0,
-                stirred: false,
+                dirty: false,
             },
             gave: None,
             turns: 0,
@@ -139,7 +139,7 @@ impl<P: Program> Schedule<P> {
     // The new threads become ready, and one thread is dispatched.
     fn take(&mut self, marks: &mut Marks) -> Result<(), OutOfMemory>
         requires going { IsGoing self.old }
-        requires ranks { IsRoofed self.old }
+        requires ranks { HasUpperBound self.old }
         requires few { self.old.turn.steps ≤ most_steps }
         requires nobody { self.old.world.scheduler.running ≡ None }
         requires over { self.old.turn.gave ≡ None }
@@ -148,7 +148,7 @@ impl<P: Program> Schedule<P> {
         ensures stands { OnOk result ((c : Course P P.State P.Shared) → Stands self.old c → Stands self.new (takes c.turn c.state)) }
         ensures err { OnErr result ((c : Course P P.State P.Shared) → Stands self.old c → IsCut marks.old marks.new (takes c.turn c.state).marks) }
         ensures going { OnOk result (IsGoing self.new) }
-        ensures ranks { OnOk result (IsRoofed self.new) }
+        ensures ranks { OnOk result (HasUpperBound self.new) }
         ensures steps { self.new.turn.steps ≡ self.old.turn.steps }
     {
         ready_new(&mut self.world);
@@ -195,21 +195,21 @@ impl<P: Program> Schedule<P> {
     // The thread that runs makes a step.
     fn step(&mut self, t: Tid, marks: &mut Marks) -> Result<(), OutOfMemory>
         requires going { IsGoing self.old }
-        requires ranks { IsRoofed self.old }
+        requires ranks { HasUpperBound self.old }
         requires few { self.old.turn.steps ≤ most_steps }
         requires runs { self.old.world.scheduler.running ≡ Some t.0 }
         requires over { self.old.turn.gave ≡ None }
         ensures ok { OnOk result ((c : Course P P.State P.Shared) → Stands self.old c → AwaitsRightly t.0 c.state → Makes self.new marks.old marks.new (steps P.functions c.turn t.0 c.state)) }
         ensures err { OnErr result ((c : Course P P.State P.Shared) → Stands self.old c → AwaitsRightly t.0 c.state → IsCut marks.old marks.new (steps P.functions c.turn t.0 c.state).marks) }
         ensures going { OnOk result (IsGoing self.new) }
-        ensures ranks { OnOk result (IsRoofed self.new) }
+        ensures ranks { OnOk result (HasUpperBound self.new) }
         ensures steps { OnOk result (self.new.turn.steps ≡ self.old.turn.steps + 1) }
         ensures still { OnErr result (self.new.turn.steps ≡ self.old.turn.steps) }
     {
-        let next = match go_on(&mut self.world, &mut self.calm, t, marks) {
+        let next = match go_on(&mut self.world, &mut self.quiescence, t, marks) {
             Ok(next) => next,
             Err(e) => {
-                self.calm.until = 0;
+                self.quiescence.until = 0;
                 return Err(e);
             }
         };
@@ -222,7 +222,7 @@ impl<P: Program> Schedule<P> {
     // made.
     fn close(&mut self, t: Tid, marks: &mut Marks) -> Result<(), OutOfMemory>
         requires going { IsGoing self.old }
-        requires ranks { IsRoofed self.old }
+        requires ranks { HasUpperBound self.old }
         requires few { self.old.turn.steps ≤ most_steps }
         requires over { self.old.turn.gave ≡ Some t.0 }
         ensures ok { OnOk result ((c : Course P P.State P.Shared) → Stands self.old c
@@ -230,7 +230,7 @@ impl<P: Program> Schedule<P> {
         ensures err { OnErr result ((c : Course P P.State P.Shared) → Stands self.old c
             → IsCut marks.old marks.new (closes P.functions c.turn t.0 c.state).marks) }
         ensures going { OnOk result (IsGoing self.new) }
-        ensures ranks { OnOk result (IsRoofed self.new) }
+        ensures ranks { OnOk result (HasUpperBound self.new) }
         ensures steps { self.new.turn.steps ≡ self.old.turn.steps }
         ensures gave { OnOk result (self.new.turn.gave ≡ None) }
         ensures running { OnOk result (self.new.world.scheduler.running ≡ None) }
@@ -238,7 +238,13 @@ impl<P: Program> Schedule<P> {
     {
         end_turn(&mut self.world, t);
         self.gave = None;
-        pass_unless_calm(&mut self.world, &mut self.room, &mut self.calm, t, marks)
+        pass_unless_quiescent(
+            &mut self.world,
+            &mut self.room,
+            &mut self.quiescence,
+            t,
+            marks,
+        )
     }
 
     /// A pass over the waiting threads. After an error the schedule may only be dropped.
@@ -255,9 +261,9 @@ impl<P: Program> Schedule<P> {
         ensures scheduler { OnOk result (self.new.world.scheduler ≡ self.old.world.scheduler) }
         ensures kernel { OnOk result (self.new.world.kernel ≡ self.old.world.kernel) }
     {
-        self.calm = Calm {
+        self.quiescence = Quiescence {
             until: 0,
-            stirred: false,
+            dirty: false,
         };
         pass(&mut self.world, &mut self.room, marks)
     }
@@ -277,9 +283,9 @@ impl<P: Program> Schedule<P> {
         ensures scheduler { OnOk result (self.new.world.scheduler ≡ self.old.world.scheduler) }
         ensures kernel { OnOk result (self.new.world.kernel ≡ record self.old.world.kernel { now = moment }) }
     {
-        self.calm = Calm {
+        self.quiescence = Quiescence {
             until: 0,
-            stirred: false,
+            dirty: false,
         };
         self.world.set_time(moment);
         marks.push(Mark::Moved { at: moment })?;
@@ -349,7 +355,7 @@ impl<P: Program> Schedule<P> {
         ensures stands { OnOk result ((c : Course P P.State P.Shared) → Stands self.old c → Stands self.new (part P.functions c.turn c.state)) }
         ensures err { OnErr result ((c : Course P P.State P.Shared) → Stands self.old c → IsCut marks.old marks.new (part P.functions c.turn c.state).marks) }
         ensures going { OnOk result (IsGoing self.new) }
-        ensures ranks { OnOk result (IsRoofed self.new) }
+        ensures ranks { OnOk result (HasUpperBound self.new) }
         ensures steps { self.new.turn.steps ≡ self.old.turn.steps }
     {
         if self.is_idle() {
@@ -367,7 +373,7 @@ impl<P: Program> Schedule<P> {
         ensures stands { OnOk result ((c : Course P P.State P.Shared) → Stands self.old c → AllAwaitRightly c.state → Stands self.new (part P.functions c.turn c.state)) }
         ensures err { OnErr result ((c : Course P P.State P.Shared) → Stands self.old c → AllAwaitRightly c.state → IsCut marks.old marks.new (part P.functions c.turn c.state).marks) }
         ensures going { OnOk result (IsGoing self.new) }
-        ensures ranks { OnOk result (IsRoofed self.new) }
+        ensures ranks { OnOk result (HasUpperBound self.new) }
         ensures within { (to : ℕ) → machine_stops to self.old ≡ false → self.old.turn.steps ≤ to → self.new.turn.steps ≤ to }
     {
         match self.outcome {

@@ -18,13 +18,13 @@ ghost use Rattle.pth_world.specs.Shows.{Shows, StandsFor};
 ghost use Rattle.pth_world.specs.Sound.{IsSound, IsKnown};
 ghost use Rattle.pth_world.specs.Touches.{KeepsRest};
 ghost use Rattle.pth_world.specs.WellFormed.{WellFormed, IsIn, WaitsToRun};
-ghost use Rattle.pth_sched.specs.Calm.{Calms};
-ghost use Rattle.pth_sched.specs.Mild.{is_patient as is_patient_in, is_waiting as waits_on, waits_mildly as waits_mildly_in};
+ghost use Rattle.pth_sched.specs.Quiescence.{IsKnownQuiescent};
+ghost use Rattle.pth_sched.specs.NonWaking.{waits_on_without_waking as waits_on_without_waking_in, is_waiting as waits_on, waits_without_waking as waits_without_waking_in};
 ghost use Rattle.pth_sched.specs.Passing.{HasRoom, IsReady};
 
 use crate::begin::{begin, begin_at_once};
-use crate::calm::Calm;
-use crate::mild::{calm_after, is_mild, waits_mildly};
+use crate::non_waking::{is_non_waking, quiescence_after, waits_without_waking};
+use crate::quiescence::Quiescence;
 use pth_base::call::Call;
 use pth_base::ids::Tid;
 use pth_base::limits::LAST_MOMENT;
@@ -41,7 +41,7 @@ use pth_world::world::World;
 fn new_rank<P: Program>(w: &World<P>) -> i64
     requires { IsSound w.now.threads }
     ensures rank { (k : Control P P.State P.Shared) → Shows w.now k → result ≡ new_rank k }
-    ensures under { (roof : ℕ) → greatest_return ≤ roof → IsUnder roof w.now.threads.queues.ready → result ≤ℤ pos (roof + 1) }
+    ensures under { (bound : ℕ) → greatest_return ≤ bound → IsUnder bound w.now.threads.queues.ready → result ≤ℤ pos (bound + 1) }
     ensures low { neg_ℤ (pos 20) ≤ℤ result }
 {
     if w.favour() { w.top() } else { 0 }
@@ -56,7 +56,7 @@ pub fn ready_new<P: Program>(w: &mut World<P>)
     ensures scheduler { KeepsRest w.old w.new }
     ensures made { w.new.threads.records.made ≡ w.old.threads.records.made }
     ensures none { w.new.threads.queues.new ≡ [] }
-    ensures ranks { (roof : ℕ) → greatest_return ≤ roof → IsUnder roof w.old.threads.queues.ready → IsUnder (roof + length w.old.threads.queues.new) w.new.threads.queues.ready }
+    ensures ranks { (bound : ℕ) → greatest_return ≤ bound → IsUnder bound w.old.threads.queues.ready → IsUnder (bound + length w.old.threads.queues.new) w.new.threads.queues.ready }
     ensures some { 0 < length w.old.threads.queues.ready + length w.old.threads.queues.new → 0 < length w.new.threads.queues.ready }
     ensures stays { (u : ℕ) → WaitsToRun w.old.threads u → WaitsToRun w.new.threads u }
 {
@@ -81,10 +81,10 @@ pub fn next<P: Program>(w: &World<P>) -> Tid
     }
 }
 
-// Begins a call that is not mild, or is mild only if it waits. After an error the world may only be dropped.
-fn begin_unmild<P: Program>(
+// Begins a call that may wake another thread, or is non-waking only if it waits. After an error the world may only be dropped.
+fn begin_waking<P: Program>(
     w: &mut World<P>,
-    calm: &mut Calm,
+    quiescence: &mut Quiescence,
     t: Tid,
     call: Call,
     marks: &mut Marks,
@@ -94,18 +94,18 @@ fn begin_unmild<P: Program>(
     requires few { HasNumbers w.old }
     ensures goes { Goes (StandsWhere w.old t.0 false) (begun P.functions t.0 call) w.new marks.old marks.new result }
     ensures frame { IfOk result (λ n. Frame w.old w.new one_of_each (runs_after t.0 n) (yields_after n)) }
-    ensures kept { IfOk result (λ n. calm.new.until ≡ (if waits_mildly_in (kernel_of w.old.kernel) call && waits_on n then calm.old.until else 0)) }
+    ensures kept { IfOk result (λ n. quiescence.new.until ≡ (if waits_without_waking_in (kernel_of w.old.kernel) call && waits_on n then quiescence.old.until else 0)) }
 {
-    let patient = waits_mildly(w.kernel(), &call);
+    let non_waking = waits_without_waking(w.kernel(), &call);
     let next = begin(w, t, call, marks)?;
-    *calm = calm_after(*calm, patient, &next);
+    *quiescence = quiescence_after(*quiescence, non_waking, &next);
     Ok(next)
 }
 
 // The thread that runs begins the program's next call. After an error the world may only be dropped.
 fn begin_next<P: Program>(
     w: &mut World<P>,
-    calm: &mut Calm,
+    quiescence: &mut Quiescence,
     t: Tid,
     marks: &mut Marks,
 ) -> Result<Next, OutOfMemory>
@@ -116,19 +116,19 @@ fn begin_next<P: Program>(
     ensures goes { (p : Progress P.State) → Goes (λ (s : State P P.State P.Shared). StandsWhere w.old t.0 false s × (s.control.threads.progress t.0 ≡ Some p)) (steps_from P.functions t.0 p) w.new marks.old marks.new result }
     ensures some { (s : State P P.State P.Shared) → StandsFor w.old s → IsSome (s.control.threads.progress t.0) }
     ensures frame { IfOk result (λ n. Frame w.old w.new one_of_each (runs_after t.0 n) (yields_after n)) }
-    ensures calm { OnOk result (Calms w.old calm.old.until → Calms w.new calm.new.until) }
+    ensures quiescence { OnOk result (IsKnownQuiescent w.old quiescence.old.until → IsKnownQuiescent w.new quiescence.new.until) }
 {
     let call = w.next_call(t)?;
-    if is_mild(&call) {
+    if is_non_waking(&call) {
         return begin_at_once(w, t, &call, marks);
     }
-    begin_unmild(w, calm, t, call, marks)
+    begin_waking(w, quiescence, t, call, marks)
 }
 
 // The thread that runs tries the call that blocks it again. After an error the world may only be dropped.
 fn resume_blocked<P: Program>(
     w: &mut World<P>,
-    calm: &mut Calm,
+    quiescence: &mut Quiescence,
     t: Tid,
     marks: &mut Marks,
 ) -> Result<Next, OutOfMemory>
@@ -136,21 +136,21 @@ fn resume_blocked<P: Program>(
     requires runs { w.old.scheduler.running ≡ Some t.0 }
     ensures goes { Goes (StandsRightly w.old t.0) (gone_on P.functions t.0) w.new marks.old marks.new result }
     ensures frame { IfOk result (λ n. Frame w.old w.new no_numbers (runs_after t.0 n) (yields_after n)) }
-    ensures calm { OnOk result (Calms w.old calm.old.until → Calms w.new calm.new.until) }
+    ensures quiescence { OnOk result (IsKnownQuiescent w.old quiescence.old.until → IsKnownQuiescent w.new quiescence.new.until) }
 {
-    let patient = is_patient(w, t);
+    let non_waking = waits_on_without_waking(w, t);
     let next = resume(w, t, marks)?;
-    *calm = calm_after(*calm, patient, &next);
+    *quiescence = quiescence_after(*quiescence, non_waking, &next);
     Ok(next)
 }
 
-// Whether the call that blocks a thread is mild if it waits on.
-fn is_patient<P: Program>(w: &World<P>, t: Tid) -> bool
+// Whether the call that blocks a thread is non-waking if it waits on.
+fn waits_on_without_waking<P: Program>(w: &World<P>, t: Tid) -> bool
     requires { WellFormed w.now }
-    ensures { (k : Control P P.State P.Shared) → Shows w.now k → result ≡ is_patient_in (kernel_of w.now.kernel) (blocked_of k t.0) }
+    ensures { (k : Control P P.State P.Shared) → Shows w.now k → result ≡ waits_on_without_waking_in (kernel_of w.now.kernel) (blocked_of k t.0) }
 {
     match w.blocked(t) {
-        Some(blocked) => waits_mildly(w.kernel(), &blocked.call),
+        Some(blocked) => waits_without_waking(w.kernel(), &blocked.call),
         None => false,
     }
 }
@@ -159,7 +159,7 @@ fn is_patient<P: Program>(w: &World<P>, t: Tid) -> bool
 /// only be dropped.
 pub fn go_on<P: Program>(
     w: &mut World<P>,
-    calm: &mut Calm,
+    quiescence: &mut Quiescence,
     t: Tid,
     marks: &mut Marks,
 ) -> Result<Next, OutOfMemory>
@@ -168,12 +168,12 @@ pub fn go_on<P: Program>(
     requires few { HasNumbers w.old }
     ensures goes { Goes (StandsRightly w.old t.0) (steps_on P.functions t.0) w.new marks.old marks.new result }
     ensures frame { IfOk result (λ n. Frame w.old w.new one_of_each (runs_after t.0 n) (yields_after n)) }
-    ensures calm { OnOk result (Calms w.old calm.old.until → Calms w.new calm.new.until) }
+    ensures quiescence { OnOk result (IsKnownQuiescent w.old quiescence.old.until → IsKnownQuiescent w.new quiescence.new.until) }
 {
     if w.blocked(t).is_some() {
-        return resume_blocked(w, calm, t, marks);
+        return resume_blocked(w, quiescence, t, marks);
     }
-    begin_next(w, calm, t, marks)
+    begin_next(w, quiescence, t, marks)
 }
 
 // The thread that gave up control is put back, unless it has ended.
@@ -221,7 +221,7 @@ pub fn end_turn<P: Program>(w: &mut World<P>, t: Tid)
     ensures preferred { w.new.scheduler.preferred ≡ w.old.scheduler.preferred }
     ensures gives { GivesNone w.old w.new }
     ensures store { w.new.store ≡ w.old.store }
-    ensures ranks { (roof : ℕ) → greatest_return ≤ roof → IsUnder roof w.old.threads.queues.ready → IsUnder (roof + 1) w.new.threads.queues.ready }
+    ensures ranks { (bound : ℕ) → greatest_return ≤ bound → IsUnder bound w.old.threads.queues.ready → IsUnder (bound + 1) w.new.threads.queues.ready }
     ensures fresh { length w.new.threads.queues.new ≤ length w.old.threads.queues.new }
     ensures stays { (u : ℕ) → WaitsToRun w.old.threads u → WaitsToRun w.new.threads u }
     ensures within { w.old.kernel.now ≤ last_moment }

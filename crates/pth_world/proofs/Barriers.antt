@@ -22,6 +22,6 @@ module _ {P S H : Type 0} (w : WorldOf P S H) (b : List (Option Barrier)) where
     whole = barred_whole whole;
     runs = refl;
     made = λ k. omega arith;
-    ranks = record { under = λ roof low h. h; fresh = omega arith };
+    ranks = record { under = λ bound low h. h; fresh = omega arith };
     preferred = refl;
   }

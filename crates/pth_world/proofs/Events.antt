@@ -23,7 +23,7 @@ module _ {P S H : Type 0} (w : WorldOf P S H) (e : RingsOf) where
     whole = events_whole whole;
     runs = refl;
     made = elim [ Thread ↦ omega arith | Object ↦ omega arith | Event ↦ few | Port ↦ omega arith ];
-    ranks = record { under = λ roof low h. h; fresh = omega arith };
+    ranks = record { under = λ bound low h. h; fresh = omega arith };
     preferred = refl;
   }
 

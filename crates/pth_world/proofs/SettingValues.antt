@@ -43,7 +43,7 @@ module _ {P S H : Type 0} (w : WorldOf P S H) (y : AttrsOf) where
     whole = objects_whole same whole;
     runs = refl;
     made = elim [ Thread ↦ omega arith | Object ↦ few | Event ↦ omega arith | Port ↦ omega arith ];
-    ranks = record { under = λ roof low h. h; fresh = omega arith };
+    ranks = record { under = λ bound low h. h; fresh = omega arith };
     preferred = refl;
   }
 
@@ -116,7 +116,7 @@ module _ {P S H : Type 0} (w : WorldOf P S H) (r : ThreadsOf) where
     whole = field_whole t u c aside keeps whole at touches sound same.slots;
     runs = refl;
     made = elim [ Thread ↦ (let e = same.made in omega arith) | Object ↦ omega arith | Event ↦ omega arith | Port ↦ omega arith ];
-    ranks = record { under = λ roof low h. h; fresh = omega arith };
+    ranks = record { under = λ bound low h. h; fresh = omega arith };
     preferred = refl;
   }
 
@@ -206,7 +206,7 @@ module _ {P S H : Type 0} (w : WorldOf P S H) (x : AttrsOf) (r : ThreadsOf) (a :
     whole = set_whole o some s whole;
     runs = refl;
     made = set_numbers o some s;
-    ranks = record { under = λ roof low h. h; fresh = omega arith };
+    ranks = record { under = λ bound low h. h; fresh = omega arith };
     preferred = refl;
   }
 

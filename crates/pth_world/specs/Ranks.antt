@@ -7,7 +7,7 @@ use Rattle.pth_world.specs.World.{ThreadsBySlot}
 
 -- no row has a rank above this
 abbrev pub IsUnder : ℕ → List Ranked → Type 0
-IsUnder roof rows = All (λ r. r.rank ≤ℤ pos roof) rows
+IsUnder bound rows = All (λ r. r.rank ≤ℤ pos bound) rows
 
 -- the greatest rank at which a thread that is woken or put back enters the ready queue: base priorities go to 20
 abbrev pub greatest_return : ℕ
@@ -16,7 +16,7 @@ greatest_return = 21
 -- A change that lifts no ready thread above the others: what no rank of the ready queue was above, none is above now, from
 -- the greatest rank of a return up; and at most so many threads more are new.
 pub record KeepsRanks {S : Type 0} (more : ℕ) (x y : ThreadsBySlot S) : Type 0 where
-  pub under : (roof : ℕ) → greatest_return ≤ roof → IsUnder roof x.queues.ready → IsUnder roof y.queues.ready
+  pub under : (bound : ℕ) → greatest_return ≤ bound → IsUnder bound x.queues.ready → IsUnder bound y.queues.ready
   pub fresh : length y.queues.new ≤ length x.queues.new + more
 
 -- how many threads more are new where one enters this queue

@@ -4,7 +4,7 @@ use Rattle.pth_threads.specs.Threads.{tid_at}
 use Rattle.pth_model.specs.State.{State, now_of}
 use Rattle.pth_world.specs.Shows.{StandsFor}
 use Rattle.pth_waits.specs.Dormant.{IsDormant, after_now}
-use Rattle.pth_sched.specs.Calm.{AreDormant}
+use Rattle.pth_sched.specs.Quiescence.{AreDormant}
 use Rattle.pth_sched.proofs.pass_room.all_dormant_until.Given as goal
 
 abbrev pub invariant-loop-slot : goal.invariant-loop-slot

@@ -1,4 +1,4 @@
-use Rattle.pth_sched.proofs.CalmWorlds.{gone_waits}
+use Rattle.pth_sched.proofs.QuiescentWorlds.{gone_waits}
 use Rattle.pth_sched.proofs.passes.own_dormant_until.Goals as goal
 
 pub returns-in-None-clause-dormant : goal.returns-in-None-clause-dormant

@@ -18,9 +18,9 @@ use Rattle.pth_world.specs.Shows.{Shows}
 use Rattle.pth_world.specs.World.{WorldOf}
 use Rattle.pth_world.proofs.Telling.{has_still}
 use Rattle.pth_waits.proofs.Carried.{goes_as, goes_where}
-use Rattle.pth_sched.specs.Mild.{waits_mildly, is_waiting}
-use Rattle.pth_sched.proofs.Begins.{mild_never}
-use Rattle.pth_sched.proofs.CalmSteps.{begun_calms, calms_by}
+use Rattle.pth_sched.specs.NonWaking.{waits_without_waking, is_waiting}
+use Rattle.pth_sched.proofs.Begins.{non_waking_never}
+use Rattle.pth_sched.proofs.QuiescentSteps.{begun_stays_quiescent, quiescent_by}
 use Rattle.pth_sched.proofs.Going.{stepped_frame}
 use Rattle.pth_sched.proofs.turns.begin_next.Goals as goal
 
@@ -52,34 +52,34 @@ begin_at_once-requires-clause-few g c k =
     let same : made c.next_call.new.self k ≡ made c.args.w.now k = ap (λ (w : WorldOf _ _ _). made w k) c.in_ok-call.ensures.same in
     omega arith
 
-pub begin_unmild-requires-clause-few : goal.begin_unmild-requires-clause-few
-begin_unmild-requires-clause-few g c k =
+pub begin_waking-requires-clause-few : goal.begin_waking-requires-clause-few
+begin_waking-requires-clause-few g c k =
     let few = c.requires.few k in
     let same : made c.next_call.new.self k ≡ made c.args.w.now k = ap (λ (w : WorldOf _ _ _). made w k) c.in_ok-call.ensures.same in
     omega arith
 
 pub begin_at_once-requires-clause-never : goal.begin_at_once-requires-clause-never
-begin_at_once-requires-clause-never g c = mild_never c.in_ok-call.call (sym c.is_mild.ensures ∙ c.if-is_mild.true)
+begin_at_once-requires-clause-never g c = non_waking_never c.in_ok-call.call (sym c.is_non_waking.ensures ∙ c.if-is_non_waking.true)
 
-pub returns-then-is_mild-clause-goes : goal.returns-then-is_mild-clause-goes
-returns-then-is_mild-clause-goes g c p = stepped g.P.Program.functions c.args.w.now c.next_call.new.self c.begin_at_once.new.w c.args.t.0 c.in_ok-call.call (ap (λ (k : WorldOf _ _ _). k.store) c.in_ok-call.ensures.same) c.in_ok-call.ensures.call c.in_ok-call.ensures.shows p _ _ _ (goes_where c.next_call.new.self c.args.t.0 false _ _ _ _ _ c.begin_at_once.ensures.goes)
+pub returns-then-is_non_waking-clause-goes : goal.returns-then-is_non_waking-clause-goes
+returns-then-is_non_waking-clause-goes g c p = stepped g.P.Program.functions c.args.w.now c.next_call.new.self c.begin_at_once.new.w c.args.t.0 c.in_ok-call.call (ap (λ (k : WorldOf _ _ _). k.store) c.in_ok-call.ensures.same) c.in_ok-call.ensures.call c.in_ok-call.ensures.shows p _ _ _ (goes_where c.next_call.new.self c.args.t.0 false _ _ _ _ _ c.begin_at_once.ensures.goes)
 
-pub returns-then-is_mild-clause-some : goal.returns-then-is_mild-clause-some
-returns-then-is_mild-clause-some g c s st = c.next_call.ensures.some s.control st.control
+pub returns-then-is_non_waking-clause-some : goal.returns-then-is_non_waking-clause-some
+returns-then-is_non_waking-clause-some g c s st = c.next_call.ensures.some s.control st.control
 
-pub returns-then-is_mild-clause-frame : goal.returns-then-is_mild-clause-frame
-returns-then-is_mild-clause-frame g c =
+pub returns-then-is_non_waking-clause-frame : goal.returns-then-is_non_waking-clause-frame
+returns-then-is_non_waking-clause-frame g c =
     let same = c.in_ok-call.ensures.same in
     IfOk-weaker c.begin_at_once.result _ _ (λ n frame. stepped_frame c.args.w.now c.next_call.new.self c.begin_at_once.new.w (runs_after c.args.t.0 n) (yields_after n) (c.in_ok-call.ensures.whole c.requires.whole) (ap (λ (k : WorldOf _ _ _). k.scheduler) same) (λ k. ap (λ (w : WorldOf _ _ _). made w k) same) (ap (λ (k : WorldOf _ _ _). k.threads.queues) same) frame) c.begin_at_once.ensures.frame
 
-pub returns-then-is_mild-clause-calm : goal.returns-then-is_mild-clause-calm
-returns-then-is_mild-clause-calm g c =
-    let mild = sym c.is_mild.ensures ∙ c.if-is_mild.true in
-    both c.begin_at_once.result c.begin_at_once.ensures.goes.next c.begin_at_once.ensures.goes.leads (λ n next leads calms some.
-    begun_calms g.P.Program.functions c.args.w.now c.begin_at_once.new.w c.args.calm.now.until c.args.t.0 (calms some) c.requires.runs c.next_call.new.self c.in_ok-call.call n _ _ (ap (λ (k : WorldOf _ _ _). k.store) c.in_ok-call.ensures.same) (λ r st. next r st.0) (λ r st. leads r st.0) c.requires.free (ap (λ b. b || (waits_mildly (kernel_of c.next_call.new.self.kernel) c.in_ok-call.call && is_waiting n)) mild) (λ r st. c.next_call.ensures.some r.control st.control) c.in_ok-call.ensures.shows)
+pub returns-then-is_non_waking-clause-quiescence : goal.returns-then-is_non_waking-clause-quiescence
+returns-then-is_non_waking-clause-quiescence g c =
+    let non_waking = sym c.is_non_waking.ensures ∙ c.if-is_non_waking.true in
+    both c.begin_at_once.result c.begin_at_once.ensures.goes.next c.begin_at_once.ensures.goes.leads (λ n next leads quiescent some.
+    begun_stays_quiescent g.P.Program.functions c.args.w.now c.begin_at_once.new.w c.args.quiescence.now.until c.args.t.0 (quiescent some) c.requires.runs c.next_call.new.self c.in_ok-call.call n _ _ (ap (λ (k : WorldOf _ _ _). k.store) c.in_ok-call.ensures.same) (λ r st. next r st.0) (λ r st. leads r st.0) c.requires.free (ap (λ b. b || (waits_without_waking (kernel_of c.next_call.new.self.kernel) c.in_ok-call.call && is_waiting n)) non_waking) (λ r st. c.next_call.ensures.some r.control st.control) c.in_ok-call.ensures.shows)
 
 pub returns-clause-goes : goal.returns-clause-goes
-returns-clause-goes g c p = stepped g.P.Program.functions c.args.w.now c.next_call.new.self c.begin_unmild.new.w c.args.t.0 c.in_ok-call.call (ap (λ (k : WorldOf _ _ _). k.store) c.in_ok-call.ensures.same) c.in_ok-call.ensures.call c.in_ok-call.ensures.shows p _ _ _ c.begin_unmild.ensures.goes
+returns-clause-goes g c p = stepped g.P.Program.functions c.args.w.now c.next_call.new.self c.begin_waking.new.w c.args.t.0 c.in_ok-call.call (ap (λ (k : WorldOf _ _ _). k.store) c.in_ok-call.ensures.same) c.in_ok-call.ensures.call c.in_ok-call.ensures.shows p _ _ _ c.begin_waking.ensures.goes
 
 pub returns-clause-some : goal.returns-clause-some
 returns-clause-some g c s st = c.next_call.ensures.some s.control st.control
@@ -87,11 +87,11 @@ returns-clause-some g c s st = c.next_call.ensures.some s.control st.control
 pub returns-clause-frame : goal.returns-clause-frame
 returns-clause-frame g c =
     let same = c.in_ok-call.ensures.same in
-    IfOk-weaker c.begin_unmild.result _ _ (λ n frame. stepped_frame c.args.w.now c.next_call.new.self c.begin_unmild.new.w (runs_after c.args.t.0 n) (yields_after n) (c.in_ok-call.ensures.whole c.requires.whole) (ap (λ (k : WorldOf _ _ _). k.scheduler) same) (λ k. ap (λ (w : WorldOf _ _ _). made w k) same) (ap (λ (k : WorldOf _ _ _). k.threads.queues) same) frame) c.begin_unmild.ensures.frame
+    IfOk-weaker c.begin_waking.result _ _ (λ n frame. stepped_frame c.args.w.now c.next_call.new.self c.begin_waking.new.w (runs_after c.args.t.0 n) (yields_after n) (c.in_ok-call.ensures.whole c.requires.whole) (ap (λ (k : WorldOf _ _ _). k.scheduler) same) (λ k. ap (λ (w : WorldOf _ _ _). made w k) same) (ap (λ (k : WorldOf _ _ _). k.threads.queues) same) frame) c.begin_waking.ensures.frame
 
-pub returns-clause-calm : goal.returns-clause-calm
-returns-clause-calm g c =
-    let stirs = sym c.is_mild.ensures ∙ c.if-is_mild.false in
-    all_three c.begin_unmild.result c.begin_unmild.ensures.kept c.begin_unmild.ensures.goes.next c.begin_unmild.ensures.goes.leads (λ n kept next leads calms.
-    calms_by c.begin_unmild.new.w (waits_mildly (kernel_of c.next_call.new.self.kernel) c.in_ok-call.call && is_waiting n) c.args.calm.now.until c.begin_unmild.new.calm.until kept
-    (λ test some. begun_calms g.P.Program.functions c.args.w.now c.begin_unmild.new.w c.args.calm.now.until c.args.t.0 (calms some) c.requires.runs c.next_call.new.self c.in_ok-call.call n _ _ (ap (λ (k : WorldOf _ _ _). k.store) c.in_ok-call.ensures.same) next leads c.requires.free (ap (λ b. b || (waits_mildly (kernel_of c.next_call.new.self.kernel) c.in_ok-call.call && is_waiting n)) stirs ∙ test) (λ r st. c.next_call.ensures.some r.control st.control) c.in_ok-call.ensures.shows))
+pub returns-clause-quiescence : goal.returns-clause-quiescence
+returns-clause-quiescence g c =
+    let stirs = sym c.is_non_waking.ensures ∙ c.if-is_non_waking.false in
+    all_three c.begin_waking.result c.begin_waking.ensures.kept c.begin_waking.ensures.goes.next c.begin_waking.ensures.goes.leads (λ n kept next leads quiescent.
+    quiescent_by c.begin_waking.new.w (waits_without_waking (kernel_of c.next_call.new.self.kernel) c.in_ok-call.call && is_waiting n) c.args.quiescence.now.until c.begin_waking.new.quiescence.until kept
+    (λ test some. begun_stays_quiescent g.P.Program.functions c.args.w.now c.begin_waking.new.w c.args.quiescence.now.until c.args.t.0 (quiescent some) c.requires.runs c.next_call.new.self c.in_ok-call.call n _ _ (ap (λ (k : WorldOf _ _ _). k.store) c.in_ok-call.ensures.same) next leads c.requires.free (ap (λ b. b || (waits_without_waking (kernel_of c.next_call.new.self.kernel) c.in_ok-call.call && is_waiting n)) stirs ∙ test) (λ r st. c.next_call.ensures.some r.control st.control) c.in_ok-call.ensures.shows))

@@ -6,10 +6,10 @@ use Rattle.pth_world.proofs.Ranks.{under-increase}
 use Rattle.pth_sched.proofs.turns.end_turn.Goals as goal
 
 pub returns-clause-ranks : goal.returns-clause-ranks
-returns-clause-ranks g c = λ roof low under.
-    let raised = subst (λ w. IsUnder (roof + 1) w.threads.queues.ready) (sym c.raise_ready.ensures.same) (under-increase roof c.args.w.now.threads.queues.ready under) in
-    let placed = c.place.ensures.ranks.under (roof + 1) (omega arith) raised in
-    subst (λ w. IsUnder (roof + 1) w.threads.queues.ready) (sym c.tick.ensures.same) placed
+returns-clause-ranks g c = λ bound low under.
+    let raised = subst (λ w. IsUnder (bound + 1) w.threads.queues.ready) (sym c.raise_ready.ensures.same) (under-increase bound c.args.w.now.threads.queues.ready under) in
+    let placed = c.place.ensures.ranks.under (bound + 1) (omega arith) raised in
+    subst (λ w. IsUnder (bound + 1) w.threads.queues.ready) (sym c.tick.ensures.same) placed
 
 pub returns-clause-stays : goal.returns-clause-stays
 returns-clause-stays g c u waits = c.tick.ensures.stays u (c.place.ensures.stays u (c.raise_ready.ensures.stays u waits))

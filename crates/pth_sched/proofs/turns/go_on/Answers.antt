@@ -9,7 +9,7 @@ use Rattle.pth_model.specs.Part.{steps_from, steps_on}
 use Rattle.pth_model.specs.Transition.{Went}
 use Rattle.pth_world.proofs.StateOf.{stands_for_state}
 use Rattle.pth_waits.proofs.Carried.{goes_as}
-use Rattle.pth_sched.proofs.CalmSteps.{steps_anew}
+use Rattle.pth_sched.proofs.QuiescentSteps.{steps_anew}
 use Rattle.pth_sched.proofs.Parts.{steps_again}
 use Rattle.pth_sched.proofs.turns.go_on.Goals as goal
 

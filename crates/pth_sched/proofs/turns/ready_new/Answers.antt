@@ -13,7 +13,7 @@ loop-t-init g c = record {
   scheduler = scheduler_first _;
   made = refl;
   room = c.requires.room;
-  rises = λ roof low under. rises_none _ roof under;
+  rises = λ bound low under. rises_none _ bound under;
   some = λ h. h;
   stays = λ u waits. waits;
 }
@@ -43,7 +43,7 @@ loop-t-preserved g c =
       scheduler = scheduler_then _ _ _ before.scheduler c.make_ready.ensures.scheduler;
       made = c.make_ready.ensures.threads.made ∙ before.made;
       room = room_next c.loop-t.w.threads c.make_ready.new.self.threads c.in-Some.t.0 _ known stands queues before.room c.new_rank-rank.ensures.under;
-      rises = λ roof low under. rises_next _ c.loop-t.w.threads c.make_ready.new.self.threads c.in-Some.t.0 _ roof known stands queues low c.new_rank-rank.ensures.under (before.rises roof low under);
+      rises = λ bound low under. rises_next _ c.loop-t.w.threads c.make_ready.new.self.threads c.in-Some.t.0 _ bound known stands queues low c.new_rank-rank.ensures.under (before.rises bound low under);
       some = λ h. (let n = some_ready c.loop-t.w.threads c.make_ready.new.self.threads c.in-Some.t.0 _ known stands queues in omega arith);
       stays = λ u waits. c.make_ready.ensures.stays u (before.stays u waits);
     }
@@ -57,4 +57,4 @@ returns-clause-shows g c =
     λ s st. comes_end _ _ none (c.loop-t.invariant.comes s st)
 
 pub returns-clause-ranks : goal.returns-clause-ranks
-returns-clause-ranks g c = λ roof low under. rises_all _ _ roof (c.loop-t.invariant.rises roof low under)
+returns-clause-ranks g c = λ bound low under. rises_all _ _ bound (c.loop-t.invariant.rises bound low under)

@@ -16,7 +16,7 @@ invariant-loop-t g l = record {
   scheduler : KeepsRest l.fn.w l.w;
   made : l.w.threads.records.made ≡ l.fn.w.threads.records.made;
   room : HasRoom l.w.threads.queues;
-  rises : (roof : ℕ) → greatest_return ≤ roof → IsUnder roof l.fn.w.threads.queues.ready → Rises l.fn.w.threads l.w.threads roof;
+  rises : (bound : ℕ) → greatest_return ≤ bound → IsUnder bound l.fn.w.threads.queues.ready → Rises l.fn.w.threads l.w.threads bound;
   some : 0 < length l.fn.w.threads.queues.ready + length l.fn.w.threads.queues.new → 0 < length l.w.threads.queues.ready + length l.w.threads.queues.new;
   stays : (u : ℕ) → WaitsToRun l.fn.w.threads u → WaitsToRun l.w.threads u;
 }

@@ -5,5 +5,5 @@ use Rattle.pth_audit.specs.Mailboxes.{message_of, mail_of}
 use Rattle.pth_audit.proofs.mailboxes.Mailboxes.send_back.Given as goal
 
 -- the messages that are left go back as all do
-abbrev pub invariant-loop-letter : goal.invariant-loop-letter
-invariant-loop-letter l = sent_back (map message_of (deque_iter_rest l.letter-iterator)) (mail_of l.self) ≡ sent_back (map message_of l.queue.items) (mail_of l.initial.self)
+abbrev pub invariant-loop-stored : goal.invariant-loop-stored
+invariant-loop-stored l = sent_back (map message_of (deque_iter_rest l.stored-iterator)) (mail_of l.self) ≡ sent_back (map message_of l.queue.items) (mail_of l.initial.self)

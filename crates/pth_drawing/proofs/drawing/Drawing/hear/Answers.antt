@@ -14,7 +14,7 @@ returns-in-Some c =
     (record {
       count = c.hear.ensures.count;
       moments = ap (λ v. v.items) c.hear.ensures.moments;
-      tracks = λ t. tracks t ∙ ap (λ o. heard_by t d.sheet.count o (track_in d.sheet.tracks.by_thread t)) (sym c.in-Some.is ∙ c.news_of.ensures);
+      tracks = λ t. tracks t ∙ ap (λ o. heard_by t d.sheet.count o (track_in d.sheet.tracks.by_thread t)) (sym c.in-Some.is ∙ c.thread_event_of.ensures);
     })
     (sym (c.requires.other.moves_none d.moved))) c.hear.ensures.tracks
 
@@ -23,5 +23,5 @@ returns-in-None c = λ from turns marks f.
     let d = c.args.self.now in
     let m = c.args.mark.now in
     heard_more d from turns marks m f c.requires.other.begins_none c.requires.going d.sheet d.moved
-    (record { count = refl; moments = refl; tracks = λ t. ap (λ o. heard_by t d.sheet.count o (track_in d.sheet.tracks.by_thread t)) (sym c.in-None.is ∙ c.news_of.ensures) })
+    (record { count = refl; moments = refl; tracks = λ t. ap (λ o. heard_by t d.sheet.count o (track_in d.sheet.tracks.by_thread t)) (sym c.in-None.is ∙ c.thread_event_of.ensures) })
     (sym (c.requires.other.moves_none d.moved))

@@ -14,18 +14,18 @@ returns-in_err-n-clause-answer c =
     let p = err_from_is_err_and c.from_residual.result c.from_residual.ensures.1 in
     rw (← c.self.view_is) (answer_memory (λ n. n) _ EAGAIN _ c.from_residual.result p.0 (has_room _ c.self.invariant (omega arith)) p.1 p.2)
 
-pub add_letter-requires : goal.add_letter-requires
-add_letter-requires c = none_given _ c.self.invariant c.in_ok-n.n (omega (arith, c.in_ok-n.ensures.number))
+pub store_message-requires : goal.store_message-requires
+store_message-requires c = none_given _ c.self.invariant c.in_ok-n.n (omega (arith, c.in_ok-n.ensures.number))
 
-pub returns-in_err-add_letter-clause-answer : goal.returns-in_err-add_letter-clause-answer
-returns-in_err-add_letter-clause-answer c =
-    let p = err_from_is_err_and c.from_residual-in_err-add_letter.result c.from_residual-in_err-add_letter.ensures.1 in
-    rw (← c.self.view_is) (answer_memory (λ n. n) _ EAGAIN _ c.from_residual-in_err-add_letter.result p.0 (has_room _ c.self.invariant (omega arith)) p.1 p.2)
+pub returns-in_err-store_message-clause-answer : goal.returns-in_err-store_message-clause-answer
+returns-in_err-store_message-clause-answer c =
+    let p = err_from_is_err_and c.from_residual-in_err-store_message.result c.from_residual-in_err-store_message.ensures.1 in
+    rw (← c.self.view_is) (answer_memory (λ n. n) _ EAGAIN _ c.from_residual-in_err-store_message.result p.0 (has_room _ c.self.invariant (omega arith)) p.1 p.2)
 
 pub invariant_of-self-2 : goal.invariant_of-self-2
 invariant_of-self-2 c =
     let fits : SFits w64 c.args.value = c.ranges.value in
-    rw c.in_ok-n.ensures.number (added_kept _ _ c.self.invariant refl refl refl c.args.value c.args.reply (rw (to_z-of_z, c.in_ok-n.ensures.number) at c.in_ok-add_letter.ensures.letters) c.in_ok-add_letter.ensures.count c.requires (omega arith))
+    rw c.in_ok-n.ensures.number (added_kept _ _ c.self.invariant refl refl refl c.args.value c.args.reply (rw (to_z-of_z, c.in_ok-n.ensures.number) at c.in_ok-store_message.ensures.stored_messages) c.in_ok-store_message.ensures.count c.requires (omega arith))
 
 pub returns-clause-answer : goal.returns-clause-answer
 returns-clause-answer c = rw (← c.self.view_is, c.in_ok-n.ensures.number) (answer_given (λ n. n) _ EAGAIN _ (c.self.inside.sent + 1) (has_room _ c.self.invariant (omega arith)) (ap (λ n. n + 1) (sym (mail_made _))))
@@ -33,15 +33,15 @@ returns-clause-answer c = rw (← c.self.view_is, c.in_ok-n.ensures.number) (ans
 pub returns-clause-none : goal.returns-clause-none
 returns-clause-none c =
     let fits : SFits w64 c.args.value = c.ranges.value in
-    rw (← c.self.view_is, mail_made) (none_held _ _ c.self.invariant refl refl refl c.args.value c.args.reply (rw (to_z-of_z, c.in_ok-n.ensures.number) at c.in_ok-add_letter.ensures.letters) c.in_ok-add_letter.ensures.count)
+    rw (← c.self.view_is, mail_made) (none_held _ _ c.self.invariant refl refl refl c.args.value c.args.reply (rw (to_z-of_z, c.in_ok-n.ensures.number) at c.in_ok-store_message.ensures.stored_messages) c.in_ok-store_message.ensures.count)
 
 pub returns-clause-mail : goal.returns-clause-mail
 returns-clause-mail c =
     let fits : SFits w64 c.args.value = c.ranges.value in
-    rw (← c.self.view_is, c.in_ok-n.ensures.number) (added_mail _ _ c.self.invariant refl refl refl c.args.value c.args.reply (rw (to_z-of_z, c.in_ok-n.ensures.number) at c.in_ok-add_letter.ensures.letters) c.in_ok-add_letter.ensures.count)
+    rw (← c.self.view_is, c.in_ok-n.ensures.number) (added_mail _ _ c.self.invariant refl refl refl c.args.value c.args.reply (rw (to_z-of_z, c.in_ok-n.ensures.number) at c.in_ok-store_message.ensures.stored_messages) c.in_ok-store_message.ensures.count)
 
 pub returns-clause-names : goal.returns-clause-names
-returns-clause-names c = rw (← c.self.view_is) (names_same _ _ c.self.invariant c.in_ok-n.n _ refl refl c.in_ok-add_letter.ensures.letters)
+returns-clause-names c = rw (← c.self.view_is) (names_same _ _ c.self.invariant c.in_ok-n.n _ refl refl c.in_ok-store_message.ensures.stored_messages)
 
 pub returns-clause-number : goal.returns-clause-number
 returns-clause-number c = rw (← c.self.view_is, c.in_ok-n.ensures.number) (ap (λ n. n + 1) (sym (mail_made _)))

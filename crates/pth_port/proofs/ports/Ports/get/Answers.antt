@@ -14,9 +14,9 @@ returns-clause-mail c =
     let fits : SFits w64 c.args.p = c.ranges.p in
     let port = rw to_z-of_z at c.in-Some.ensures.number in
     let q : Mail = mail_of c.args.self.now in
-    let letter : Message = message c.in-Some-hold_first.n c.in-Some-hold_first.letter in
+    let stored : Message = message c.in-Some-hold_first.n c.in-Some-hold_first.stored in
     let h = c.in-Some-hold_first.ensures in
     c.settle.ensures.mail
-    ∙ ap (settled letter) h.mail
-    ∙ got_done q c.in-Some.port.0 letter (messages_of (q.at c.in-Some.port.0)) h.first h.fresh
+    ∙ ap (settled stored) h.mail
+    ∙ got_done q c.in-Some.port.0 stored (messages_of (q.at c.in-Some.port.0)) h.first h.fresh
     ∙ ap (λ (i : ℕ). got i (messages_of (q.at i)) q) port

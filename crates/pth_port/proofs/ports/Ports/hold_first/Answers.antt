@@ -22,13 +22,13 @@ returns-in_err-n-clause-mail c =
     rw (← c.self.view_is) (none_first _ c.args.p.0 _ (none_queued _ c.self.invariant c.args.p.0 c.in_ok-queue.queue c.in_ok-queue.ensures c.in_err-n.ensures))
 
 abbrev before : After-set_queue → PortsOf
-before c = record { ports = c.self.inside.ports.entries; letters = c.self.inside.letters.entries; made = c.self.inside.made; sent = c.self.inside.sent }
+before c = record { ports = c.self.inside.ports.entries; stored_messages = c.self.inside.stored_messages.entries; made = c.self.inside.made; sent = c.self.inside.sent }
 
 abbrev after : After-set_queue → PortsOf
-after c = record (before c) { ports = c.set_queue.new.ports.entries; letters = c.set_place.new.letters.entries }
+after c = record (before c) { ports = c.set_queue.new.ports.entries; stored_messages = c.set_place.new.stored_messages.entries }
 
-took : (c : After-set_queue) → Takes (before c) (after c) c.args.p.0 c.in_ok-n.n c.in_ok-n.letter
-took c = takes (before c) c.self.invariant c.args.p.0 c.in_ok-queue.queue c.in_ok-queue.ensures (after c) c.in_ok-n.n c.in_ok-n.letter c.next.result c.without_first-queue.result c.in_ok-n.ensures c.next.ensures c.without_first-queue.ensures c.set_queue.ensures.ports c.set_queue.ensures.count refl refl c.set_place.ensures.letters c.set_place.ensures.count
+took : (c : After-set_queue) → Takes (before c) (after c) c.args.p.0 c.in_ok-n.n c.in_ok-n.stored
+took c = takes (before c) c.self.invariant c.args.p.0 c.in_ok-queue.queue c.in_ok-queue.ensures (after c) c.in_ok-n.n c.in_ok-n.stored c.next.result c.without_first-queue.result c.in_ok-n.ensures c.next.ensures c.without_first-queue.ensures c.set_queue.ensures.ports c.set_queue.ensures.count refl refl c.set_place.ensures.stored_messages c.set_place.ensures.count
 
 pub invariant_of-self : goal.invariant_of-self
 invariant_of-self c = (took c).kept

@@ -7,14 +7,14 @@ use Rattle.pth_port.proofs.ports.Ports.put.Goals as goal
 use Rattle.pth_port.proofs.ports.Ports.put.Goals.{In_ok-n}
 
 -- the message that is put
-abbrev letter : In_ok-n → Message
-letter c = record { number = c.in_ok-n.n; value = c.args.v; reply = reply_number c.in-Ok.reply }
+abbrev stored : In_ok-n → Message
+stored c = record { number = c.in_ok-n.n; value = c.args.v; reply = reply_number c.in-Ok.reply }
 
-added : (c : In_ok-n) → mail_of c.add_held.new.self ≡ with_held (letter c) (record (mail_of c.args.self.now) { made = c.in_ok-n.n })
+added : (c : In_ok-n) → mail_of c.add_held.new.self ≡ with_held (stored c) (record (mail_of c.args.self.now) { made = c.in_ok-n.n })
 added c = let fits : SFits w64 c.args.v = c.ranges.v in rw to_z-of_z at c.in_ok-n.ensures.mail
 
 pub send-requires : goal.send-requires
-send-requires c = let a = (goal.at.send-requires c).In_ok-n in ap is_some (kept_after _ _ (letter a) (added a))
+send-requires c = let a = (goal.at.send-requires c).In_ok-n in ap is_some (kept_after _ _ (stored a) (added a))
 
 pub returns-clause-mail : goal.returns-clause-mail
 returns-clause-mail c =
@@ -27,7 +27,7 @@ returns-clause-mail c =
     let port = rw to_z-of_z at c.in-Some.ensures.number in
     let known = rw to_z-of_z at c.in-Ok.ensures.known in
     let reply = rw to_z-of_z at c.in-Ok.ensures.number in
-    c.send.ensures.mail (letter a) (kept_after _ _ (letter a) (added a))
-    ∙ ap (λ (z : Mail). sent c.in-Some.port.0 (letter a) (without_held n z)) (added a)
+    c.send.ensures.mail (stored a) (kept_after _ _ (stored a) (added a))
+    ∙ ap (λ (z : Mail). sent c.in-Some.port.0 (stored a) (without_held n z)) (added a)
     ∙ ap₂ (λ (i j : ℕ). sent i (record { number = n; value = c.args.v; reply = j }) (without_held n (with_held (record { number = n; value = c.args.v; reply = j }) (record q { made = n })))) port reply
     ∙ put_done q (number c.args.p) (number c.args.reply) n c.args.v (sym live) (reply_known q c.args.reply known) c.in_ok-n.ensures.number (ap q.kept c.in_ok-n.ensures.number ∙ c.in_ok-n.ensures.none)

@@ -15,9 +15,9 @@ returns-clause-mail c =
     let q : Mail = mail_of c.args.self.now in
     let n : ℕ = c.message_number-n.result in
     let n_is : n ≡ number c.args.m = rw to_z-of_z at c.message_number-n.ensures in
-    let letter : Message = record { number = n; value = c.args.v; reply = 0 } in
-    let written : mail_of c.rewrite_held.new.self ≡ with_held letter q = rw to_z-of_z at c.rewrite_held.ensures.mail in
-    c.send.ensures.mail letter (kept_after q _ letter written)
-    ∙ ap (λ (z : Mail). sent c.in-Some.port.0 letter (without_held n z)) written
+    let stored : Message = record { number = n; value = c.args.v; reply = 0 } in
+    let written : mail_of c.rewrite_held.new.self ≡ with_held stored q = rw to_z-of_z at c.rewrite_held.ensures.mail in
+    c.send.ensures.mail stored (kept_after q _ stored written)
+    ∙ ap (λ (z : Mail). sent c.in-Some.port.0 stored (without_held n z)) written
     ∙ replied_done q n c.in-Some.port.0 c.args.v (q.kept n) c.in-Some.ensures.held c.in-Some.ensures.number c.in-Some.ensures.port (sym c.if-not-has.ensures.live)
     ∙ ap (λ (i : ℕ). replied c.args.v (q.kept i) q) n_is

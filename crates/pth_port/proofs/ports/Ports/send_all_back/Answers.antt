@@ -13,7 +13,7 @@ send_back-requires c =
 went : (c : After-send_back) → Goes (mail_of c.loop-n.self) (mail_of c.send_back.new.self) c.args.port.0
 went c =
     let h = c.in-Some.ensures in
-    goes (mail_of c.loop-n.self) (mail_of c.send_back.new.self) c.args.port.0 (message c.in-Some.n c.in-Some.letter) h.first h.fresh (c.send_back.ensures.mail ∙ ap (gone_on c.args.port.0 (message c.in-Some.n c.in-Some.letter)) h.mail)
+    goes (mail_of c.loop-n.self) (mail_of c.send_back.new.self) c.args.port.0 (message c.in-Some.n c.in-Some.stored) h.first h.fresh (c.send_back.ensures.mail ∙ ap (gone_on c.args.port.0 (message c.in-Some.n c.in-Some.stored)) h.mail)
 
 pub loop-n-smaller : goal.loop-n-smaller
 loop-n-smaller c = let fewer = (went c).fewer in omega arith

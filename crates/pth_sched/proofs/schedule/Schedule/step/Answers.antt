@@ -1,10 +1,10 @@
 use Rattle.std.proofs.Common.{◌≡◌, ◌≤◌, arith, Some, None, ◌∙◌, ap, subst, sym, rules}
 use Rattle.pth_base.specs.Limits.{most_steps}
 use Rattle.pth_model.specs.State.{Turn}
-use Rattle.pth_sched.specs.MachineOf.{IsGoing, IsRoofed}
+use Rattle.pth_sched.specs.MachineOf.{IsGoing, HasUpperBound}
 use Rattle.pth_sched.specs.Running.{Stands}
 use Rattle.pth_sched.proofs.Parts.{after_memory, step_makes, steps_marks, turn_turns, turn_steps}
-use Rattle.pth_sched.proofs.Roofs.{step_roofed}
+use Rattle.pth_sched.proofs.UpperBounds.{step_bounded}
 use Rattle.pth_sched.proofs.Going.{step_going}
 use Rattle.pth_sched.proofs.schedule.Schedule.step.Goals as goal
 
@@ -27,11 +27,11 @@ returns-clause-ok g c = λ x st right.
 
 pub returns-clause-ranks : goal.returns-clause-ranks
 returns-clause-ranks g c =
-    let before = subst (λ m. IsRoofed m) (sym c.self.view_is) c.requires.ranks in
+    let before = subst (λ m. HasUpperBound m) (sym c.self.view_is) c.requires.ranks in
     let queues = ap (λ w. w.threads.queues) c.settle.ensures.same in
     let turns = ap (λ (x : Turn). x.turns) c.settle.ensures.turn ∙ turn_turns c.args.t.0 c.in-Ok.next _ in
     let steps = ap (λ (x : Turn). x.steps) c.settle.ensures.turn ∙ turn_steps c.args.t.0 c.in-Ok.next _ in
-    step_roofed _ _ c.args.t.0 c.go_on.new.w before (search rules) c.in-Ok.ensures.frame.ranks queues turns steps
+    step_bounded _ _ c.args.t.0 c.go_on.new.w before (search rules) c.in-Ok.ensures.frame.ranks queues turns steps
 
 pub returns-clause-going : goal.returns-clause-going
 returns-clause-going g c =
@@ -41,4 +41,4 @@ returns-clause-going g c =
     step_going _ _ before c.args.t.0 c.in-Ok.next c.go_on.new.w over runs c.in-Ok.ensures.frame c.settle.ensures.whole c.settle.ensures.same c.settle.ensures.turn
 
 pub invariant_of-self-2 : goal.invariant_of-self-2
-invariant_of-self-2 g c = λ some. c.in-Ok.ensures.calm c.self.invariant some
+invariant_of-self-2 g c = λ some. c.in-Ok.ensures.quiescence c.self.invariant some

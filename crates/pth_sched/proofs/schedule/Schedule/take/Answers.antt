@@ -4,13 +4,13 @@ use Rattle.pth_base.proofs.Cuts.{cut_none}
 use Rattle.pth_base.specs.Limits.{most_steps}
 use Rattle.pth_model.specs.State.{Scheduler}
 use Rattle.pth_world.specs.Numbering.{Thread, Object, Event, Port, GivesNone}
-use Rattle.pth_sched.specs.MachineOf.{IsGoing, IsRoofed}
+use Rattle.pth_sched.specs.MachineOf.{IsGoing, HasUpperBound}
 use Rattle.pth_sched.specs.Running.{Stands}
 use Rattle.pth_sched.proofs.Parts.{take_makes, take_stands, ready_history, few_turns, turns_few}
-use Rattle.pth_sched.proofs.Roofs.{take_roofed}
+use Rattle.pth_sched.proofs.UpperBounds.{take_bounded}
 use Rattle.pth_sched.proofs.Keeping.{gives_rest}
 use Rattle.pth_sched.proofs.Going.{named_on, named_ready, take_going}
-use Rattle.pth_sched.proofs.CalmWorlds.{take_calm}
+use Rattle.pth_sched.proofs.QuiescentWorlds.{take_quiescent}
 use Rattle.pth_sched.proofs.schedule.Schedule.take.Goals as goal
 
 pub returns-clause-ok : goal.returns-clause-ok
@@ -41,10 +41,10 @@ returns-clause-err g c = on_err_weaker c.push.result (λ same x st. cut_none _ _
 
 pub returns-clause-ranks : goal.returns-clause-ranks
 returns-clause-ranks g c =
-    let inside = subst (λ m. IsRoofed m) (sym c.self.view_is) c.requires.ranks in
+    let inside = subst (λ m. HasUpperBound m) (sym c.self.view_is) c.requires.ranks in
     let nobody = subst (λ m. m.world.scheduler.running ≡ None) (sym c.self.view_is) c.requires.nobody in
     let gave = subst (λ m. m.turn.gave ≡ None) (sym c.self.view_is) c.requires.over in
-    on_ok_weaker c.push.result (λ tells. take_roofed _ _ c.ready_new.new.w inside gave nobody (c.ready_new.ensures.ranks inside.roof inside.low inside.under) c.ready_new.ensures.none c.dispatch-turn.ensures.ranks refl refl) c.push.ensures.ok
+    on_ok_weaker c.push.result (λ tells. take_bounded _ _ c.ready_new.new.w inside gave nobody (c.ready_new.ensures.ranks inside.bound inside.low inside.under) c.ready_new.ensures.none c.dispatch-turn.ensures.ranks refl refl) c.push.ensures.ok
 
 pub next-t-requires-clause-named : goal.next-t-requires-clause-named
 next-t-requires-clause-named g c =
@@ -62,4 +62,4 @@ returns-clause-going g c =
 pub invariant_of-self : goal.invariant_of-self
 invariant_of-self g c = λ some.
     let nobody = subst (λ m. m.world.scheduler.running ≡ None) (sym c.self.view_is) c.requires.nobody in
-    take_calm _ _ (c.self.invariant some) c.ready_new.new.w c.dispatch-turn.new.self c.next-t.result.0 nobody c.ready_new.ensures.shows c.dispatch-turn.ensures.shows (ap (λ w. w.store) c.dispatch-turn.ensures.same ∙ c.ready_new.ensures.scheduler.store)
+    take_quiescent _ _ (c.self.invariant some) c.ready_new.new.w c.dispatch-turn.new.self c.next-t.result.0 nobody c.ready_new.ensures.shows c.dispatch-turn.ensures.shows (ap (λ w. w.store) c.dispatch-turn.ensures.same ∙ c.ready_new.ensures.scheduler.store)
