@@ -13,18 +13,21 @@ use Rattle.pth_command.specs.declared.choice.Choice.{Choice}
 use Rattle.pth_command.specs.declared.command_line.WordsErr.{WordsErr}
 use Rattle.pth_command.specs.declared.command_line.WordsErr.TheVariants as words
 use Rattle.pth_player.specs.FaultsOfErrors.{fault_of_sink, fault_of_words}
-use Rattle.pth_player.specs.Drive.{Drives}
+use Rattle.pth_player.specs.Drive.{Drives, IsRestTo}
 use Rattle.pth_streams.specs.Inputs.{Inputs}
 use Rattle.pth_streams.specs.Scene.{Scene, scene}
 use Rattle.pth_player.specs.Objects.{Object, ObjectRead, ObjectStood, OthersUntouched, asked_object, cut, nothing, the_file, the_input, the_workload}
-use Rattle.pth_player.specs.Output.{given_script, outcome_status, told_output, upgrade_output}
-use Rattle.pth_player.specs.Play.{IsRead, Ran, RanFor, ReadsText, WritesScript, done_status}
+use Rattle.pth_player.specs.Output.{given_script, outcome_status, told_output, upgrade_output, IsRunOutput}
+use Rattle.pth_player.specs.Play.{HoldsScript, IsRead, Ran, RanFor, ReadsText, WritesScript, done_status}
 use Rattle.pth_streams.specs.Pieces.{Received}
 use Rattle.pth_streams.specs.Pieces.{WritesPiece}
 use Rattle.pth_player.specs.declared.done.Done.{Done}
 use Rattle.pth_player.specs.declared.done.Done.TheVariants as done
 use Rattle.pth_script.specs.Upgrade.{IsUpgrade, upgraded}
 use Rattle.pth_model.specs.Run.{run}
+use Rattle.std.specs.Io.KnownBytes.{Appends}
+use Rattle.pth_streams.specs.Pieces.{AppendsPart, AppendsPrefix}
+use Rattle.pth_player.proofs.Beginnings.{whole_text}
 use Rattle.pth_player.proofs.Reading.{read_stood}
 use Rattle.pth_player.proofs.Results.{err_is, ok_is, ok_not_err}
 
@@ -118,17 +121,38 @@ module _ (asked : Asked) (ins later : Inputs) (w : Received) where
 
     -- the machine of a script was driven
     module _ (runs : asked.upgrade ≡ false) (script : Sections × KernelOf × ℕ) (h : ReadsText IsRead (asked_object (Some asked)) ins later (Ok script)) where
-      drove_by : (r : Result Outcome SinkErr) → Drives functions_of (given_script script) asked w z r → WritesScript asked scene_before after (ran_of r)
+      -- the run stops at part j, and this is its text
+      module _ (j : ℕ) (rest : List ℕ) (is : IsRestTo functions_of (given_script script) asked 0 j rest) where
+        is_output : IsRunOutput functions_of (given_script script) asked (told_output asked (run functions_of (given_script script) j))
+        is_output = (j, (whole_text functions_of (given_script script) asked j rest is).0, refl)
+
+        holds : HoldsScript asked scene_before (told_output asked (run functions_of (given_script script) j))
+        holds = (h.1.0, h.1.1, inl (runs, given_script script, h.1.2, is_output))
+
+        text_is : rest ≡ (told_output asked (run functions_of (given_script script) j)).text
+        text_is = (whole_text functions_of (given_script script) asked j rest is).1
+
+      drove_by : (r : Result Outcome SinkErr) → Drives functions_of (given_script script) asked 0 w z r → WritesScript asked scene_before after (ran_of r)
       drove_by (Ok o) d = (
         told_output asked (run functions_of (given_script script) d.0),
-        (h.1.0, h.1.1, inl (runs, given_script script, h.1.2, (d.0, d.1, refl))),
-        ap outcome_status (sym d.2),
-        (d.3, d.4),
+        holds d.0 d.1 d.2,
+        ap outcome_status (sym d.3),
+        (subst (Appends w.written z.written) (text_is d.0 d.1 d.2) d.4, d.5),
       )
-      drove_by (Err sink.Failed) d = (d.0, (h.1.0, h.1.1, inl (runs, given_script script, h.1.2, d.1)), tt, (d.2, d.3))
-      drove_by (Err sink.OutOfMemory) d = (d.0, (h.1.0, h.1.1, inl (runs, given_script script, h.1.2, d.1)), tt, (d.2, d.3))
+      drove_by (Err sink.Failed) d = (
+        told_output asked (run functions_of (given_script script) d.0),
+        holds d.0 d.1 d.2,
+        tt,
+        (subst (AppendsPart w.written z.written) (text_is d.0 d.1 d.2) d.3, d.4),
+      )
+      drove_by (Err sink.OutOfMemory) d = (
+        told_output asked (run functions_of (given_script script) d.0),
+        holds d.0 d.1 d.2,
+        tt,
+        (subst (AppendsPrefix w.written z.written) (text_is d.0 d.1 d.2) d.3, d.4),
+      )
 
-      pub drove : (r : Result Outcome SinkErr) → Drives functions_of (given_script script) asked w z r → RanFor asked scene_before after (done_of (ran_of r))
+      pub drove : (r : Result Outcome SinkErr) → Drives functions_of (given_script script) asked 0 w z r → RanFor asked scene_before after (done_of (ran_of r))
       drove r d = wrote h.0 (ran_of r) (drove_by r d)
 
     -- the text in version 2 was written

@@ -1,4 +1,6 @@
 //! A machine run for a number of steps, and its transcript written piece by piece.
+//!
+//! A summary makes the same marks and no lines, so one loop with one invariant serves both.
 
 ghost use Rattle.std.specs.Prelude.{◌≡◌, ◌≢◌, ◌<◌, ◌≤◌, ◌-◌, ◌+◌, ◌++◌, ◌⊎◌, ℕ, IsFalse, IsTrue, OnOk};
 ghost use Rattle.pth_base.specs.Limits.{most_steps};
@@ -150,8 +152,8 @@ fn some_steps<P: Program>(machine: &mut Machine<P>, n: u64, marks: &mut Marks) -
 /// The marks and the text of so many are kept at a time. The clauses of `some_steps` say so, and none of `drive`, which
 /// speaks of all that is written.
 ///
-/// A machine that stands at the start of a run writes the text of what that run tells to so many steps, and nothing else.
-/// If the sink fails or memory ends, a beginning of that is written.
+/// From any part of a run on, the rest of the run's text is written: at the start of a run, the whole text to so many steps.
+/// If the sink fails or memory ends, a beginning of the rest is written.
 pub fn drive<P: Program, O: Sink>(
     alloc: Global,
     machine: &mut Machine<P>,
@@ -161,8 +163,8 @@ pub fn drive<P: Program, O: Sink>(
 ) -> Result<Outcome, SinkErr>
     requires nonzero { 1 ≤ piece }
     requires few { machine.old.turn.steps + choice.now.steps ≤ most_steps }
-    ensures written { (g : Given P) → StandsAt P.functions g 0 machine.old
-        → Drives P.functions g (asked_of choice.now)
+    ensures written { (g : Given P) (i : ℕ) → StandsAt P.functions g i machine.old
+        → Drives P.functions g (asked_of choice.now) i
         (received (O.written out.old) (O.faults out.old))
         (received (O.written out.new) (O.faults out.new)) result }
 {

@@ -1,4 +1,4 @@
-use Rattle.std.proofs.Common.{◌≡◌, ◌+◌, []}
+use Rattle.std.proofs.Common.{◌≡◌, ◌+◌, ℕ, []}
 use Rattle.pth_model.specs.State.{Given}
 use Rattle.pth_sched.specs.Running.{StandsAt}
 use Rattle.pth_command.specs.CommandLine.{asked_of}
@@ -7,8 +7,8 @@ use Rattle.pth_player.proofs.drive.drive.Given as goal
 
 abbrev pub invariant-pieces : goal.invariant-pieces
 invariant-pieces g l = record {
-  way : (given : Given _) → StandsAt g.P.Program.functions given 0 l.initial.machine
-      → Underway g.P.Program.functions given (asked_of l.choice) l.machine (g.O.Sink.written l.initial.out) (g.O.Sink.written l.out) [];
+  way : (given : Given _) (i : ℕ) → StandsAt g.P.Program.functions given i l.initial.machine
+      → Underway g.P.Program.functions given (asked_of l.choice) i l.machine (g.O.Sink.written l.initial.out) (g.O.Sink.written l.out) [];
   stood : g.O.Sink.faults l.out ≡ g.O.Sink.faults l.initial.out;
   made : l.machine.turn.steps + l.left ≡ l.initial.machine.turn.steps + l.choice.steps;
 }

@@ -27,7 +27,7 @@ returns-in-Ok-drive-clause-ran g c =
     let later = inputs (g.S.Source.left c.read_script.new.input) (g.S.Source.faults c.read_script.new.input) (g.F.Files.left c.read_script.new.files) (g.F.Files.held c.read_script.new.files) (g.F.Files.faults c.read_script.new.files) in
     let read = c.in_ok-read.read in
     drove (asked_of c.args.choice.now) ins later (received (g.O.Sink.written c.args.out.now) (g.O.Sink.faults c.args.out.now)) (received (g.O.Sink.written c.drive.new.out) (g.O.Sink.faults c.drive.new.out)) c.requires.runs read c.in_ok-read.ensures.script (Ok c.in-Ok-drive.outcome)
-    (c.in-Ok-drive.ensures.written (given_script read) c.in-Ok.ensures.stands)
+    (c.in-Ok-drive.ensures.written (given_script read) 0 c.in-Ok.ensures.stands)
 
 pub returns-clause-ran : goal.returns-clause-ran
 returns-clause-ran g c =
@@ -36,4 +36,4 @@ returns-clause-ran g c =
     let read = c.in_ok-read.read in
     told_as (asked_of c.args.choice.now) (scene ins (received (g.O.Sink.written c.args.out.now) (g.O.Sink.faults c.args.out.now))) (scene later (received (g.O.Sink.written c.drive.new.out) (g.O.Sink.faults c.drive.new.out))) c.in-Err.e _ c.fault_of_sink.ensures
     (drove (asked_of c.args.choice.now) ins later (received (g.O.Sink.written c.args.out.now) (g.O.Sink.faults c.args.out.now)) (received (g.O.Sink.written c.drive.new.out) (g.O.Sink.faults c.drive.new.out)) c.requires.runs read c.in_ok-read.ensures.script (Err c.in-Err.e)
-    (c.in-Err.ensures.written (given_script read) c.in-Ok.ensures.stands))
+    (c.in-Err.ensures.written (given_script read) 0 c.in-Ok.ensures.stands))
