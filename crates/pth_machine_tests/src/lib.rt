@@ -29,3 +29,5 @@ mod saved_runs;
 mod snapshots;
 #[cfg(test)]
 mod watch;
+#[cfg(test)]
+mod worlds;
