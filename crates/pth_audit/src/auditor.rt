@@ -1,4 +1,6 @@
 //! Marks judged one by one.
+//!
+//! Each judge keeps ordered maps for all numbers, since a law speaks of every list of marks.
 
 ghost use Rattle.std.specs.Prelude.{◌≡◌, ◌+◌, ◌≤◌, ◌^◌, [], ◌∷◌, ◌++◌, length, List, IfOk, OnOk, OnErr, IsErrOf, IsSome, IsTrue, false};
 ghost use Rattle.pth_audit.specs.Auditing.{Follows, IsBrokenBy, IsAdded};

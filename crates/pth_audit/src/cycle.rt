@@ -1,4 +1,6 @@
 //! The stall report: threads that wait in a circle for each other's mutexes.
+//!
+//! Each thread is walked from: a chain has at most 65 threads, so marking visited ones would not pay.
 
 ghost use Rattle.std.specs.Prelude.{◌≡◌, ◌≤◌, ◌<◌, ℕ, Option, IfOk, Some, option_map, map, length, get_or};
 ghost use Rattle.pth_audit.specs.Blocking.{wanted, blocks_on, along, IsBack, IsFirstCircle};

@@ -1,4 +1,6 @@
 //! The choice that the words make.
+//!
+//! Without a default of 1,000,000 steps an endless loop would never return.
 
 ghost use Rattle.std.specs.Prelude.{◌≡◌};
 ghost use Rattle.clap.specs.Words.{found_of, rows_of};

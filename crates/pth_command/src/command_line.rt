@@ -1,4 +1,6 @@
 //! The words of the command line, read by the command's definition.
+//!
+//! The number of steps is in its range by what `clap` says of a parse.
 
 ghost use Rattle.std.specs.Prelude.{◌≡◌, ◌≤◌, IfOk, IfSome, map, option_map, string_bytes};
 ghost use Rattle.pth_base.specs.Limits.{most_steps};

@@ -1,4 +1,7 @@
 //! Draws a run mark by mark.
+//!
+//! A track changes only when something happens to its thread. A column for each thread and dispatch takes 8,000,000 steps for
+//! 2,000 columns and 4,000 threads.
 
 ghost use Rattle.std.specs.Prelude.{◌≡◌, [], false, IfOk, OnOk};
 ghost use Rattle.pth_base.specs.declared.mark.Mark.{Mark as MarkOf};

@@ -1,4 +1,6 @@
 //! The kernel as threads see it.
+//!
+//! `new` requires a trace without a fault: the reader has looked at each line already.
 
 ghost use Rattle.std.specs.Prelude.{◌≡◌, ◌<◌, ◌≤◌, None, pos, IfOk, OnOk, OnErr, IfSome, IfNone, option_map, length, take};
 ghost use Rattle.std.specs.Result.{result_err, result_map_both};

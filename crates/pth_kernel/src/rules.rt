@@ -1,4 +1,6 @@
 //! The rules of a trace, for one stamp after the other.
+//!
+//! Two sets of 64 descriptors, the last moment and a count are kept, so a line costs the same however long the trace is.
 
 ghost use Rattle.std.specs.Prelude.{◌≡◌, ℕ, ◌<◌, ◌==◌, ◌||◌, []};
 ghost use Rattle.pth_base.specs.Descriptors.{contains};

@@ -1,6 +1,8 @@
 -- Marks in order: who gets a message of a port gets the oldest one (pth_msgport_get), nobody is told that there is none while there is
 -- one, and whoever asks how many there are is told (pth_msgport_pending). All is told by the marks alone, of every list of marks: also of
 -- one that no run tells.
+--
+-- The queues change by `put_to`, `got`, `replied` and `closed_port` of `pth_port`. Port n has index 2n + 1 and port -n index 2n.
 use Rattle.std.specs.Prelude.{◌≡◌, ◌≤◌, ℕ, zero, suc, ◌+◌, ◌*◌, ◌==◌, nat_lt, ◌&&◌, ◌||◌, not, ℤ, pos, negsuc, Bool, false, if◌then◌else◌, List, [], ◌∷◌, ◌++◌, length, drop, map, filter, fold, count_by, Option, Some, None}
 use Rattle.pth_base.specs.declared.act.Act.TheVariants as act
 use Rattle.pth_base.specs.declared.answer.Answer.TheVariants.{Fail, Int, Msg}

@@ -1,4 +1,6 @@
 //! Laws of every run of every program.
+//!
+//! `laws` has the clauses of the functions next to it, so a crate above makes one call for all.
 
 ghost use Rattle.std.specs.Prelude.{◌≢◌, ℕ};
 ghost use Rattle.pth_base.specs.declared.outcome.Outcome.TheVariants.{Killed};

@@ -3,6 +3,8 @@
 //! As a `Program` a script equals `functions_of` its handlers, checks and bodies: each step keeps what the answer
 //! of the thread's last call gives it, and makes one line. A call line makes the call of its name with each operand
 //! replaced by its number. Only want of memory refuses.
+//!
+//! Lines keep operands, and each `goto` its place, so a step takes memory only for bytes.
 #![tactic(auto)]
 
 pub mod act_line;

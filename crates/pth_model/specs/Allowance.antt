@@ -1,4 +1,6 @@
 -- How long a ready thread waits for its dispatch, and how long it may wait at most, by the trail of all dispatches.
+--
+-- A point lists the latest entry first and names the thread taken; the queue's order follows from ranks and entries.
 use Rattle.std.specs.Prelude.{◌≡◌, ℕ, ◌+◌, ◌==◌, nat_lt, drop, ℤ, pos, negsuc, ◌-ℤ◌, int_lt, Bool, true, false, ◌&&◌, not, List, [], ◌∷◌, ◌++◌, filter, count_by, All, Option, Some, None, is_some, if◌then◌else◌}
 use Rattle.std.specs.List.{list_any, find}
 use Rattle.pth_model.specs.Standing.{Standing, height}

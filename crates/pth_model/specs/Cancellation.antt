@@ -1,4 +1,6 @@
 -- Cancellation: pth_cancel_state, pth_cancel_point, pth_cancel, pth_abort.
+--
+-- Whether a wait is a cancellation point is read off what is awaited, so no line for a call can be forgotten.
 use Rattle.std.specs.Prelude.{ℕ, ◌==◌, ◌&&◌, ◌||◌, not, ℤ, pos, negsuc, Bool, true, false, Option, Some, None, if◌then◌else◌}
 use Rattle.pth_base.specs.Program.{Functions}
 use Rattle.pth_base.specs.declared.call.Call.{Call}

@@ -1,4 +1,6 @@
 -- How far a run is.
+--
+-- The turn is kept apart from the state, so no row needs a proof that it leaves turns, steps and outcome alone.
 use Rattle.std.specs.Prelude.{◌≡◌, List, ◌++◌, length}
 use Rattle.pth_base.specs.declared.mark.Mark.{Mark}
 use Rattle.pth_model.specs.Allowance.{AreTakenReady}

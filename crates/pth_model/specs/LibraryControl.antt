@@ -1,4 +1,6 @@
 -- Library control: pth_kill, pth_ctrl.
+--
+-- `kill` is defined by what is left. The code empties queue by queue, in an order that no definition sees.
 use Rattle.std.specs.Prelude.{ℕ, ◌==◌, not, length, pos, Option, Some, None, [], if◌then◌else◌}
 use Rattle.pth_cond.specs.Conditions.{all_seats_left}
 use Rattle.pth_base.specs.declared.answer.Answer.TheVariants.{Int, Text}

@@ -1,4 +1,6 @@
 -- What is found of events as they are looked at: in each pass, those for which threads wait.
+--
+-- `comes` is defined by `looked_at`, so what a look changes is said once.
 use Rattle.std.specs.Prelude.{ℕ, ℤ, ◌&&◌, ◌||◌, nat_le, Bool, true, false, not, List, Option, Some, None, option_map, if◌then◌else◌}
 use Rattle.pth_base.specs.Program.{Functions}
 use Rattle.pth_base.specs.declared.thread.ThreadState.{ThreadState}

@@ -1,5 +1,7 @@
 -- What threads have, as marks tell it: cleanups, key values, mutexes, locks and messages. Marks alone change it: `told` says for
 -- every mark what becomes of it.
+--
+-- Which threads ended or were canceled is no resource: no row reads it from the marks.
 use Rattle.std.specs.Prelude.{◌≡◌, ℕ, zero, suc, ◌==◌, ◌&&◌, ℤ, pos, Bool, true, false, List, [], ◌∷◌, Option, Some, None, if◌then◌else◌}
 use Rattle.pth_base.specs.Table.{put}
 use Rattle.pth_base.specs.declared.ids.HandlerId.{HandlerId}

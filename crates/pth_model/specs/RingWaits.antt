@@ -4,6 +4,9 @@
 --
 -- An event is settled if the last look found it not pending, and a ring has settled if one of its events is (`has_settled`). An
 -- event comes if a look would find it so now (`comes`), and comes for the thread that waits for its ring (`comes_for`).
+--
+-- `unless_settled` interrupts every call with a ring in one place. `wait` never reaches it, and a wait at a condition has its own
+-- path.
 use Rattle.std.specs.Prelude.{ℕ, ℤ, List, [], Option, Some, None, option_map, nat_lt, not, Bool, false, if◌then◌else◌}
 use Rattle.pth_base.specs.declared.ids.Tid.{Tid}
 use Rattle.pth_base.specs.declared.call.Call.{Call}

@@ -1,4 +1,6 @@
 -- The row of a call: all that is said of it, in one place.
+--
+-- `again` is given what is awaited. `exit` also needs its value and `nap` its answer, so these rules are in the row.
 use Rattle.std.specs.Prelude.{Bool, true, false}
 use Rattle.pth_base.specs.declared.answer.Answer.TheVariants.{Fail}
 use Rattle.pth_model.specs.declared.awaits.Awaits.{Awaits}

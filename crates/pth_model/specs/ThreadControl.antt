@@ -1,4 +1,6 @@
 -- Thread control: pth_spawn, pth_self, pth_suspend, pth_resume, pth_yield, pth_join.
+--
+-- All dead threads have rank 0, so the Dead queue is in the order of deaths, and `join 0` needs no list of its own.
 use Rattle.std.specs.Prelude.{ℕ, ◌+◌, ◌++◌, ◌==◌, ◌&&◌, ◌||◌, not, nat_lt, take, codes, ℤ, pos, Bool, true, false, List, [], ◌∷◌, filter, Option, Some, None, is_some, Result, Ok, Err, if◌then◌else◌}
 use Rattle.pth_base.specs.Limits.{thread_limit}
 use Rattle.pth_base.specs.Program.{Functions}

@@ -1,4 +1,6 @@
 -- A state, and what was told on the way to it. A change touches the control alone, and only a mark touches the resources.
+--
+-- A definition gives only its own marks, and `and_then` joins them, so no definition speaks of earlier marks.
 use Rattle.std.specs.Prelude.{ℕ, Bool, true, false, List, [], ◌∷◌, ◌++◌}
 use Rattle.pth_base.specs.declared.ids.Tid.{Tid}
 use Rattle.pth_base.specs.declared.mark.Mark.{Mark}

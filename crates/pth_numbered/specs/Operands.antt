@@ -1,4 +1,6 @@
 -- Operands of calls, as numbers that name things.
+--
+-- Parts and rows share these words, so they need no proof that they mean the same.
 use Rattle.std.specs.Prelude.{nat_lt, ℕ, ◌==◌, ◌&&◌, min, ℤ, pos, negsuc, int_le, Bool, false, Option, None}
 
 -- an operand as a number; a negative one is 0, which no thing has

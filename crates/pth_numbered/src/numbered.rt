@@ -1,4 +1,6 @@
 //! Things by slot, with an index from their numbers to slots.
+//!
+//! One container for threads, attribute objects and events. The limit is at most 4,096, so that tables by slot serve all.
 
 ghost use Rattle.std.specs.Prelude.{◌≡◌, ◌≢◌, ◌+◌, ◌<◌, ◌≤◌, ◌↔◌, ℕ, Option, Some, None, IfOk, OnOk, OnErr, IfSome, IsErrOf, IsSome, Contains, option_map};
 ghost use Rattle.std.specs.List.Sorted.{IsStrictlyIncreasing};

@@ -1,4 +1,6 @@
 //! The words, the script and the run.
+//!
+//! The result is a value, `Done`, from which the status follows.
 
 ghost use Rattle.std.specs.Prelude.{◌≡◌, ◌≤◌, IfOk, IfSome, Some, true, false, map, string_bytes};
 ghost use Rattle.pth_base.specs.Limits.{most_steps, IsGreatestPriority};

@@ -1,4 +1,6 @@
 //! The script that the words ask for, with its kernel, or its text in version 2. It is read from the input or from a file, or made.
+//!
+//! A workload is an object in place of the input, so every clause about an input holds of it.
 
 ghost use Rattle.std.specs.Prelude.{◌≡◌, IfOk, IfSome, Some, option_map};
 ghost use Rattle.pth_base.specs.Limits.{IsGreatestPriority};

@@ -1,4 +1,6 @@
 //! Nodes, and the writes that link them.
+//!
+//! A node keeps its neighbours' numbers next to their places, so that `Rings::node` lends the node that is kept.
 
 ghost use Rattle.std.specs.Prelude.{◌≡◌, ◌≢◌, Some};
 ghost use Rattle.pth_base.specs.Table.{put};

@@ -1,4 +1,6 @@
 //! A machine that runs a program.
+//!
+//! `failed` is kept next to the schedule: after want of memory nothing holds of the world, and its clauses need no condition.
 
 ghost use Rattle.std.specs.Prelude.{◌≡◌, ◌≢◌, ◌⊎◌, ◌≤◌, ◌+◌, ◌↔◌, ℕ, [], true, false, Some, None, map, IfSome, IfOk, OnOk, OnErr};
 ghost use Rattle.pth_base.specs.Cut.{IsCut};

@@ -1,4 +1,6 @@
 //! What is known of the waiting threads, so that a pass need not scan them.
+//!
+//! Quiescence is said of threads whose records say that they wait. Said of queue rows, each entry would be a proof on lists.
 
 use pth_base::ids::Micros;
 

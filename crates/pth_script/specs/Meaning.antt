@@ -1,4 +1,6 @@
 -- What an accepted text stands for, read from its lines.
+--
+-- Each list has an option for each line, so a line that a definition drops shows in a proof.
 use Rattle.std.specs.Prelude.{◌≡◌, ℕ, ◌+◌, ◌^◌, Bool, List, [], ◌∷◌, Option, Some, option_map, option_and_then, map, drop, if◌then◌else◌}
 use Rattle.pth_text.specs.LineWords.{words_of}
 use Rattle.pth_spelling.specs.Keywords.{begins}

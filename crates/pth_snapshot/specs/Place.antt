@@ -1,4 +1,6 @@
 -- The place that a snapshot names in its first four lines, and the part of a run that it is.
+--
+-- The way to a place always leads somewhere, so the place and the ways to miss it are cases of one part.
 use Rattle.std.specs.Prelude.{◌≡◌, ◌≢◌, ◌+◌, ◌≤◌, ℕ, zero, suc, nat_le, ℤ, pos, negsuc, Bool, true, false, List, [], take, drop, codes, length, Option, Some, None, is_some, option_and_then, Result, Ok, Err, if◌then◌else◌}
 use Rattle.std.specs.Str.{bytes_eq}
 use Rattle.pth_base.specs.Limits.{most_steps}

@@ -1,4 +1,6 @@
 //! How far the threads are in their programs, by slot.
+//!
+//! A step is made in place: taking the state out and putting it back copied it five times, which cost more than a plain line.
 
 ghost use Rattle.std.specs.Prelude.{◌≡◌, ◌<◌, ℕ, Option, Some, None, IsSome, IfOk, option_copied, option_map, length};
 ghost use Rattle.pth_base.specs.Limits.{thread_limit};

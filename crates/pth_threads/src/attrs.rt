@@ -1,4 +1,6 @@
 //! The attribute objects, by their numbers.
+//!
+//! The answers are defined next to the objects, and rows take them as verdicts, so each order of refusals is written once.
 
 ghost use Rattle.std.specs.Prelude.{◌≡◌, ◌≢◌, ◌<◌, ◌≤◌, Some, None, OnOk, OnErr, IfSome, IfNone, option_copied};
 ghost use Rattle.pth_base.specs.Limits.{last_count, IsGreatestPriority};

@@ -1,4 +1,6 @@
 -- What a piece of code did to a world, and to what is told.
+--
+-- `LedTo` joins where a piece led and where it broke off. `Goes` repeats its fields, so that `leads` and `cut` are one step away.
 use Rattle.std.specs.Prelude.{◌≡◌, ℕ, ℤ, pos, Bool, List, [], ◌++◌, Option, None, Result, IfOk, OnOk, OnErr}
 use Rattle.pth_base.specs.Cut.{IsCut}
 use Rattle.pth_base.specs.declared.answer.Answer.{Answer}

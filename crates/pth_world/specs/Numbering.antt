@@ -1,4 +1,6 @@
 -- How many numbers of each kind a world gave. None is used twice.
+--
+-- Numbers are a function of the kind, so a further kind is a constructor and a clause of `one_of` and of `made`.
 use Rattle.std.specs.Prelude.{◌≡◌, ℕ, ◌+◌, ◌<◌, ◌≤◌}
 use Rattle.pth_world.specs.World.{WorldOf}
 

@@ -1,4 +1,7 @@
 -- What contracts see of a world: its parts, in the groups of the state, those of threads by slot.
+--
+-- A world shows no raises and no entry numbers, since no code reads them. A contract is said of every state that the world
+-- represents.
 use Rattle.std.specs.Prelude.{ℕ, Bool, List, [], Option, None}
 use Rattle.pth_base.specs.Naming.{seen}
 use Rattle.pth_base.specs.Program.{Functions}

@@ -1,4 +1,7 @@
 //! The records of threads: changes, new threads, and threads that are gone.
+//!
+//! A slot is emptied when a thread is made in it: no contract sees an unused slot, and `kill` would have to scan them all. `new`
+//! takes room for 4,096 threads, so moves between queues can't be refused.
 
 ghost use Rattle.std.specs.Prelude.{◌≡◌, ◌≢◌, ◌<◌, ◌+◌, ◌↔◌, ℕ, ℤ, Bool, false, Some, None, IfSome, IfOk, OnOk, OnErr, IsErrOf, nat_lt};
 ghost use Rattle.pth_base.specs.Limits.{thread_limit, IsGreatestPriority};

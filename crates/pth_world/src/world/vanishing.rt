@@ -1,4 +1,6 @@
 //! The threads vanish but one.
+//!
+//! The row of `kill` says what is left. The code empties queue by queue, in an order that no definition sees.
 
 ghost use Rattle.std.specs.Prelude.{◌≡◌, [], Some};
 ghost use Rattle.pth_queue.specs.Queues.{rows_of};
