@@ -1,7 +1,13 @@
 /* play_on_libpth [--unit U] [--library-exit] FILE plays a script on GNU Pth's C library, and writes what the library can tell, spelled as
  * in a transcript of ./play: turns without moments and ranks, calls with their answers, notes, handlers, destructors, acts and ends.
- * The library tells nothing of waits, wakes, idle time and locks that an ending gives up.
- * FILE has to be a script that ./play takes, without a kernel section.
+ * The library does not report wakes, idle time and stalls. FILE has to be a script that ./play takes, without a kernel section.
+ *
+ * Three kinds of lines are inferred, since the library does not report them either:
+ * - `waits`: a call that can block was not answered when the next turn began. Each further such turn gives another `waits` line, or
+ *   `retakes` for cond_await. A yield, a cond_notify and the last thread at a barrier give up control without a wait, and without a line.
+ * - `takes mutex M`: a thread is canceled in cond_await, and the library's block of mutex M names this thread as the owner.
+ * - `gives mutex M`, `gives rwlock L`: the block of the mutex, or that of the lock's writer, named the thread before pth_exit, pth_cancel
+ *   or pth_abort released its mutexes, and does not name it at the next line. The library never takes back a reader's entry.
  *
  * A unit of time is U real microseconds, 1,000 if nothing else is said. A turn takes one unit, as in the machine: before a call that may
  * give up control, and before its end, a thread is busy until the unit is over.
@@ -15,8 +21,11 @@
  * that stands for nothing is answered as by the machine, since the C call would read a freed block. If nothing can be answered so, the
  * run is given up with a line on standard error.
  *
- * Statuses: 0 the run is over, 2 wrong words, 3 this script can't be played here, or no further. */
+ * After SIGTERM it writes what is left to tell, and ends. An ending is told with the next line, so a run that hangs may owe one.
+ *
+ * Statuses: 0 the run is over, 2 wrong words, 3 this script can't be played here, or no further, or SIGTERM came. */
 #include <errno.h>
+#include <signal.h>
 #include <stdarg.h>
 #include <stdio.h>
 #include <stdlib.h>
@@ -53,7 +62,10 @@ static struct section handlers[SECTIONS], bodies[SECTIONS];
 static struct line checks[SECTIONS];
 static int handler_count, check_count, body_count;
 
+static void tell_last_end(void);
+
 static void give_up(int at, const char *why) {
+    tell_last_end();
     fflush(stdout);
     fprintf(stderr, "play_on_libpth: line %d: %s\n", at, why);
     _exit(3);
@@ -137,6 +149,8 @@ struct thread {
     int handlers;        /* that the script has pushed */
     int dispatches;      /* that were told */
     char call[TEXT];     /* the call that it makes, or "" */
+    enum { BLOCKS_NEVER, MAY_BLOCK, HAS_BLOCKED } blocking; /* of this call */
+    unsigned long long mutexes, written; /* those that it has as its ending begins: a bit for each */
     long ring;           /* the event with whose ring it makes this call, or 0 */
     long joins;          /* the thread that it joins by this call, or 0 */
     int leaves;          /* it ends by itself */
@@ -173,7 +187,7 @@ struct object {
 /* The library makes keys for itself, so its numbers are not the script's. */
 struct key {
     pth_key_t key;
-    int is_live, has_destructor;
+    int is_live;
     long destructor;
 };
 
@@ -199,7 +213,8 @@ static pth_barrier_t barriers[LOCKS];
 static pth_once_t controls[LOCKS];
 static struct key keys[PTH_KEY_MAX];
 
-static struct thread *last_ended;  /* whose end is still to be told: its destructors may come before it */
+static struct thread *last_ended;  /* whose end is still to be told: its destructors come first, then the library gives its mutexes */
+static struct thread *last_turn;   /* that had the last turn that is told */
 static struct thread *victim;      /* whom the current thread ends by a cancel or an abort */
 static int main_is_alone;          /* main's own wait for the others is over */
 static int exit_is_librarys;
@@ -256,10 +271,40 @@ static void use_up_turn(void) {
 
 /* ---- What is told ---- */
 
+static int has_mutex(struct thread *t, pth_mutex_t *m) { return (m->mx_state & PTH_MUTEX_LOCKED) && m->mx_owner == t->tid; }
+
+static int writes(struct thread *t, pth_rwlock_t *l) { return l->rw_mode == PTH_RWLOCK_RW && has_mutex(t, &l->rw_mutex_rw); }
+
+static void note_locks(struct thread *t) {
+    t->mutexes = t->written = 0;
+    for (int i = 0; i < LOCKS; i++) {
+        t->mutexes |= (unsigned long long)has_mutex(t, &mutexes[i]) << i;
+        t->written |= (unsigned long long)writes(t, &rwlocks[i]) << i;
+    }
+}
+
 static void tell_last_end(void) {
     struct thread *t = last_ended;
     last_ended = NULL;
-    if (t != NULL) printf("t%d ends %ld\n", t->number, t->value);
+    if (t == NULL) return;
+    for (int i = 0; i < LOCKS; i++)
+        if ((t->mutexes >> i & 1) && !has_mutex(t, &mutexes[i])) printf("t%d gives mutex %d\n", t->number, i);
+    for (int i = 0; i < LOCKS; i++)
+        if ((t->written >> i & 1) && !has_mutex(t, &rwlocks[i].rw_mutex_rw)) printf("t%d gives rwlock %d\n", t->number, i);
+    printf("t%d ends %ld\n", t->number, t->value);
+}
+
+static int is_in(struct thread *t, const char *call) {
+    size_t n = strlen(call);
+    return strncmp(t->call, call, n) == 0 && (t->call[n] == 0 || t->call[n] == ' ');
+}
+
+/* As another turn begins: whether the thread of the last one left it inside of a call that blocks. */
+static void tell_last_wait(void) {
+    struct thread *t = last_turn;
+    if (t == NULL || t->blocking == BLOCKS_NEVER) return;
+    printf("t%d %s %s\n", t->number, t->call, t->blocking == HAS_BLOCKED && is_in(t, "cond_await") ? "retakes" : "waits");
+    t->blocking = HAS_BLOCKED;
 }
 
 static void tell(struct thread *t, const char *form, ...) {
@@ -287,6 +332,8 @@ static int was_dispatched_before(struct thread *t, struct thread *other) {
 
 static void tell_turn(struct thread *t) {
     if (last_ended != t) tell_last_end();
+    tell_last_wait();
+    last_turn = t;
     t->dispatches++;
     printf("turn %d t%d\n", ++turns, t->number);
 }
@@ -404,16 +451,15 @@ static void forget_thread(struct thread *t, int at) {
 }
 
 static void note_cancellation(struct thread *t) {
+    long m;
     if (t->leaves) return;
     t->leaves = 1;
     t->value = -1;
     if (t == victim) tell(t, "canceled");
     else tell(t, "%s canceled", t->call);
-}
-
-static int is_in(struct thread *t, const char *call) {
-    size_t n = strlen(call);
-    return strncmp(t->call, call, n) == 0 && (t->call[n] == 0 || t->call[n] == ' ');
+    if (t != victim && t->blocking == HAS_BLOCKED && sscanf(t->call, "cond_await %*d %ld", &m) == 1 && has_mutex(t, &mutexes[m]))
+        tell(t, "takes mutex %ld", m);
+    t->blocking = BLOCKS_NEVER;
 }
 
 /* As a handler or a destructor is about to run for thread t. */
@@ -422,21 +468,15 @@ static void note_ending(struct thread *t) {
     note_cancellation(t);
 }
 
-static int has_destructors_to_run(void) {
-    for (int k = 0; k < PTH_KEY_MAX; k++)
-        if (keys[k].is_live && keys[k].has_destructor && pth_key_getdata(keys[k].key) != NULL) return 1;
-    return 0;
-}
-
 static void end_thread(struct thread *t) {
     int is_joinable = 0;
     tell_last_end();
     t->ring = t->joins = 0;
-    last_ended = t;
-    if (t != victim && !has_destructors_to_run()) tell_last_end();
     pth_attr_get(t->attr, PTH_ATTR_JOINABLE, &is_joinable);
     if (is_joinable) t->stage = DEAD;
     else forget_thread(t, t->at);
+    note_locks(t);
+    last_ended = t;
 }
 
 /* The handler that each thread has below those of the script: it runs as the thread ends, and after them. */
@@ -500,6 +540,7 @@ static void make_act(struct thread *t, struct line *l, long arg) {
     else give_up(l->at, "no such act");
     if (second == 1) snprintf(text, sizeof text, "act %s %ld", name, x);
     else snprintf(text, sizeof text, "act %s %ld %ld", name, x, y);
+    if (last_ended == t) note_locks(t); /* without what a destructor has released */
     tell_turns(t);
     tell_answer(t, text, a);
 }
@@ -836,7 +877,7 @@ static struct answer key_create(struct call *c) {
     int has_destructor = !is(c->l->word[1], "-");
     if (!pth_key_create(&key, has_destructor ? run_destructor : NULL)) return refusal(errno);
     while (keys[k].is_live) k++;
-    keys[k] = (struct key){key, 1, has_destructor, c->x[1]};
+    keys[k] = (struct key){key, 1, c->x[1]};
     return number(k);
 }
 
@@ -1256,7 +1297,11 @@ static struct answer close_it(struct call *c) { return close(descriptor(c->x[1])
 
 /* ---- Lines ---- */
 
-enum turn_use { GOES_ON, MAY_WAIT };
+enum turn_use {
+    GOES_ON,
+    GIVES_UP, /* may give up control, but never blocks */
+    MAY_WAIT, /* may block */
+};
 
 static const struct {
     const char *name;
@@ -1264,7 +1309,7 @@ static const struct {
     enum turn_use use;
     struct answer (*make)(struct call *);
 } calls[] = {
-    {"spawn", 4, GOES_ON, spawn}, {"self", 1, GOES_ON, self}, {"yield", 2, MAY_WAIT, yield}, {"join", 2, MAY_WAIT, join},
+    {"spawn", 4, GOES_ON, spawn}, {"self", 1, GOES_ON, self}, {"yield", 2, GIVES_UP, yield}, {"join", 2, MAY_WAIT, join},
     {"cancel", 2, GOES_ON, cancel}, {"abort", 2, GOES_ON, abort_thread}, {"suspend", 2, GOES_ON, suspend}, {"resume", 2, GOES_ON, resume},
     {"cancel_state", 2, GOES_ON, cancel_state}, {"cancel_point", 1, GOES_ON, cancel_point}, {"kill", 1, GOES_ON, kill_all},
     {"ctrl", 2, GOES_ON, ctrl}, {"once", 4, GOES_ON, once},
@@ -1281,7 +1326,7 @@ static const struct {
     {"sleep", 2, MAY_WAIT, sleep_for},
     {"mutex_init", 2, GOES_ON, mutex_init}, {"mutex_acquire", 4, MAY_WAIT, mutex_acquire}, {"mutex_release", 2, GOES_ON, mutex_release},
     {"rw_init", 2, GOES_ON, rw_init}, {"rw_acquire", 5, MAY_WAIT, rw_acquire}, {"rw_release", 2, GOES_ON, rw_release},
-    {"cond_init", 2, GOES_ON, cond_init}, {"cond_await", 4, MAY_WAIT, cond_await}, {"cond_notify", 3, MAY_WAIT, cond_notify},
+    {"cond_init", 2, GOES_ON, cond_init}, {"cond_await", 4, MAY_WAIT, cond_await}, {"cond_notify", 3, GIVES_UP, cond_notify},
     {"barrier_init", 3, GOES_ON, barrier_init}, {"barrier_reach", 2, MAY_WAIT, barrier_reach},
     {"port_create", 2, GOES_ON, port_create}, {"port_find", 2, GOES_ON, port_find}, {"port_pending", 2, GOES_ON, port_pending},
     {"port_put", 4, GOES_ON, port_put}, {"port_get", 2, GOES_ON, port_get}, {"reply", 2, GOES_ON, reply},
@@ -1312,17 +1357,25 @@ static void read_call(struct call *c) {
     }
 }
 
+/* Whether the caller is the last thread at a barrier, whose own mutex it can take. */
+static int is_tail(struct call *c) {
+    if (!is(c->l->word[0], "barrier_reach") || !is_lock(c->x[1])) return 0;
+    return barriers[c->x[1]].br_count == 1 && !is_anothers(&barriers[c->x[1]].br_mutex);
+}
+
 static void make_call(struct thread *t, struct line *l, long *to) {
     struct call c = {t, l, {0}};
     size_t i = 0;
     while (i < sizeof calls / sizeof *calls && !is(l->word[0], calls[i].name)) i++;
     if (i == sizeof calls / sizeof *calls || l->count < calls[i].words) give_up(t->at, "no such call");
     read_call(&c);
-    if (calls[i].use == MAY_WAIT) use_up_turn();
+    if (calls[i].use != GOES_ON) use_up_turn();
+    if (calls[i].use == MAY_WAIT && !is_tail(&c)) t->blocking = MAY_BLOCK;
     errno = 0;
     struct answer a = calls[i].make(&c);
     t->ring = 0;
     tell_turns(t);
+    t->blocking = BLOCKS_NEVER;
     if (!a.is_told) tell_answer(t, t->call, a);
     t->call[0] = 0;
     t->err = a.error;
@@ -1340,18 +1393,22 @@ static int main_alone_waits(void *unused) {
 }
 
 /* Main's exit, as the manual has it. The library calls the function in each pass. */
-static void wait_for_others(struct thread *t) {
+static void wait_for_others(struct thread *t, long value) {
     if (threads_in_queues() == 0) return;
+    snprintf(t->call, TEXT, "exit %ld", value);
+    t->blocking = MAY_BLOCK;
     pth_event_t e = pth_event(PTH_EVENT_FUNC, main_alone_waits, NULL, pth_time(LONGEST, 0));
     pth_wait(e);
     pth_event_free(e, PTH_FREE_THIS);
     tell_turns(t);
+    t->blocking = BLOCKS_NEVER;
+    t->call[0] = 0;
 }
 
 static void leave(struct thread *t, long value) {
     use_up_turn();
     if (t->number == 1 && !exit_is_librarys) {
-        wait_for_others(t);
+        wait_for_others(t, value);
         main_is_alone = 1;
     }
     t->leaves = 1;
@@ -1404,6 +1461,14 @@ static void tell_outcome(void) {
     _exit(0);
 }
 
+/* As the library hangs, in its select. What it owes is told: the end of a thread, or the last wait. */
+static void break_off(int signal) {
+    (void)signal;
+    tell_last_end();
+    tell_last_wait();
+    _exit(3);
+}
+
 /* No descriptor of the script is open: what is said goes out above 63, and so does what the library opens for itself. */
 static void clear_descriptors(void) {
     int out = fcntl(1, F_DUPFD, LOCKS + 16), err = fcntl(2, F_DUPFD, LOCKS + 16);
@@ -1423,6 +1488,7 @@ static void begin_main(void) {
     t->attr = pth_attr_of(t->tid);
     t->dispatches = dispatches_of(t) - 1;
     atexit(tell_outcome);
+    signal(SIGTERM, break_off);
     start = now();
     run_body(t);
 }
