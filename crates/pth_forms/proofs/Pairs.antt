@@ -4,8 +4,8 @@ use Rattle.std.specs.Prelude.{is_some}
 use Rattle.pth_text.specs.Hex.{is_hex, pair_bytes, hex_bytes}
 use Rattle.pth_forms.specs.Forms.{has_pairs}
 use Rattle.pth_spelling.specs.WordMeanings.{given_of, has_hex}
-use Rattle.pth_forms.specs.declared.form.Form.{Form}
-use Rattle.pth_forms.specs.declared.form.Form.TheVariants as form
+use Rattle.pth_spelling.specs.declared.form.Form.{Form}
+use Rattle.pth_spelling.specs.declared.form.Form.TheVariants as form
 
 some_test : (b : Bool) (bs : List ℕ) → b ≡ is_some (cond b (Some bs) None)
 some_test true bs = refl

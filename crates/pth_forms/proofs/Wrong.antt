@@ -4,7 +4,7 @@ use Rattle.std.specs.List.{list_any, zip}
 use denote.Ref.{Bor}
 use Rattle.pth_forms.specs.Forms.{misses, wrong}
 use Rattle.pth_spelling.specs.Texts.{texts}
-use Rattle.pth_forms.specs.declared.form.Form.{Form}
+use Rattle.pth_spelling.specs.declared.form.Form.{Form}
 use Rattle.pth_text.specs.declared.rule.Rule.{Rule}
 
 pub wrong_pairs : (r : Rule) (fs : List Form) (ws : List (Bor (List ℕ))) → list_any (λ p. misses r p.0 p.1.now) (zip fs ws) ≡ wrong r fs (texts ws)

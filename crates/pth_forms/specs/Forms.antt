@@ -7,8 +7,8 @@ use Rattle.pth_text.specs.declared.rule.Rule.{Rule}
 use Rattle.pth_text.specs.declared.rule.Rule.TheVariants as rule
 use Rattle.pth_spelling.specs.Keywords.{new_event_word, entry_word}
 use Rattle.pth_spelling.specs.WordMeanings.{natural_of, number_from, descriptor_of, operand_of, maybe, register_of, value_of, shared_of, name_of, set_of, has_hex, given_of, goals_of, which_of, relation_of, field_of, thread_state_of, mode_of, direction_of, query_of}
-use Rattle.pth_forms.specs.declared.form.Form.{Form}
-use Rattle.pth_forms.specs.declared.form.Form.TheVariants as form
+use Rattle.pth_spelling.specs.declared.form.Form.{Form}
+use Rattle.pth_spelling.specs.declared.form.Form.TheVariants as form
 
 -- one of the words that are allowed there
 abbrev pub is_listed : Form → List ℕ → Bool

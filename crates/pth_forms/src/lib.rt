@@ -4,5 +4,4 @@
 //! form at its place (`specs/Forms.antt`).
 #![tactic(auto)]
 
-pub mod form;
 pub mod rules;

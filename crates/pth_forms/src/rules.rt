@@ -2,11 +2,11 @@
 
 ghost use Rattle.std.specs.Prelude.{◌≡◌};
 ghost use Rattle.pth_forms.specs.Forms.{is_listed, has_form, has_pairs, misses, wrong};
-ghost use Rattle.pth_forms.specs.declared.form.Form.TheVariants as form;
+ghost use Rattle.pth_spelling.specs.declared.form.Form.TheVariants as form;
 ghost use Rattle.pth_spelling.specs.Texts.{texts};
 
-use crate::form::Form;
 use pth_spelling::first_word::{entry_word, new_event_word};
+use pth_spelling::form::Form;
 use pth_spelling::words::{
     descriptor, direction, field, goals, maybe_name, maybe_operand, mode, name, natural,
     number_within, operand, query, register, relation, set, shared, state, value, which,

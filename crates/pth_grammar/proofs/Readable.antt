@@ -10,8 +10,8 @@ use Rattle.pth_spelling.specs.Keywords.{call_word, keyword_of, begins}
 use Rattle.pth_grammar.specs.LineMeanings.{line_by, answered_line, line_of, act_with, act_by, act_of, check_by, check_of}
 use Rattle.pth_grammar.specs.Shapes.{Shape, Unequal, Asks, shape_by_forms, after_register, takes_answer, shape_of, words_break, word_rules, words_fault}
 use Rattle.pth_spelling.specs.WordMeanings.{register_of}
-use Rattle.pth_forms.specs.declared.form.Form.{Form}
-use Rattle.pth_forms.specs.declared.form.Form.TheVariants as form
+use Rattle.pth_spelling.specs.declared.form.Form.{Form}
+use Rattle.pth_spelling.specs.declared.form.Form.TheVariants as form
 use Rattle.pth_spelling.specs.declared.keyword.CallWord.{CallWord}
 use Rattle.pth_spelling.specs.declared.keyword.Keyword.{Keyword}
 use Rattle.pth_spelling.specs.declared.keyword.Keyword.TheVariants as key

@@ -6,7 +6,7 @@ use Rattle.pth_grammar.specs.Forms.{forms_of, call_forms}
 use Rattle.pth_spelling.specs.Keywords.{begins, call_word}
 use Rattle.pth_spelling.specs.WordMeanings.{register_of}
 use Rattle.pth_forms.specs.Forms.{wrong}
-use Rattle.pth_forms.specs.declared.form.Form.{Form}
+use Rattle.pth_spelling.specs.declared.form.Form.{Form}
 use Rattle.pth_text.specs.declared.rule.Rule.{Rule}
 use Rattle.pth_text.specs.declared.rule.Rule.TheVariants as rule
 use Rattle.pth_grammar.specs.declared.section.Section.{Section}

@@ -7,8 +7,8 @@ ghost use Rattle.pth_spelling.specs.Texts.{texts};
 
 use crate::section::Section;
 use crate::shape::{Shape, shape_of};
-use pth_forms::form::Form;
 use pth_forms::rules::wrong;
+use pth_spelling::form::Form;
 use pth_text::rule::Rule;
 
 /// The first rule that words break whose forms are known.

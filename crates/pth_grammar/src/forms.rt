@@ -1,14 +1,20 @@
 //! The words that must follow the first word of a line.
 
-ghost use Rattle.std.specs.Prelude.{◌≡◌, option_map};
-ghost use Rattle.pth_grammar.specs.Forms.{query_forms, ctrl_forms, field_forms, set_forms, library_forms, attribute_forms, thread_forms, utility_forms, cancellation_forms, new_event_forms, event_forms, key_forms, port_forms, cleanup_forms, mutex_forms, rwlock_forms, condition_forms, barrier_forms, io_forms, chained_forms, chain_forms, call_forms, act_forms, body_forms, opening_forms, may_open, forms_of};
+ghost use Rattle.std.specs.Prelude.{◌≡◌, ◌∷◌, option_map};
+ghost use Rattle.pth_grammar.specs.Forms.{act_forms, body_forms, call_forms, event_forms, forms_of, may_open, opening_forms, query_forms, value_forms};
+ghost use Rattle.pth_spelling.specs.Syntax.{barrier_syntax, cancellation_syntax, cleanup_syntax, condition_syntax, io_syntax, key_syntax, mutex_syntax, new_event_syntax, port_syntax, rwlock_syntax, thread_syntax, utility_syntax};
+ghost use Rattle.pth_spelling.specs.declared.form.Form.TheVariants as form;
+ghost use Rattle.pth_spelling.specs.declared.keyword.AttributeWord.TheVariants as attributes;
+ghost use Rattle.pth_spelling.specs.declared.keyword.CallWord.TheVariants as calls;
+ghost use Rattle.pth_spelling.specs.declared.keyword.EventWord.TheVariants as events;
+ghost use Rattle.pth_spelling.specs.declared.keyword.LibraryWord.TheVariants as libraries;
 ghost use Rattle.pth_spelling.specs.Texts.{texts};
 
 use crate::section::Section;
 use pth_base::attr::AttrField;
-use pth_forms::form::Form;
 use pth_kernel_lines::forms::kernel_forms;
 use pth_spelling::first_word::new_event_word;
+use pth_spelling::form::Form;
 use pth_spelling::keyword::{
     AttributeWord, BarrierWord, CallWord, CancellationWord, CleanupWord, ConditionWord, EventWord,
     IoWord, KeyStorageWord, Keyword, LibraryWord, MutexWord, NewEventWord, PortWord, QueryWord,
@@ -17,7 +23,7 @@ use pth_spelling::keyword::{
 use pth_spelling::words::{field, query};
 
 fn query_forms(query: Option<QueryWord>) -> &'static [Form]
-    ensures { result.now ≡ query_forms query }
+    ensures { result.now ≡ form.Query ∷ query_forms query }
 {
     match query {
         Some(QueryWord::Favournew) => &[Form::Query, Form::Operand],
@@ -28,7 +34,7 @@ fn query_forms(query: Option<QueryWord>) -> &'static [Form]
 }
 
 fn ctrl_forms(words: &[&[u8]]) -> &'static [Form]
-    ensures { result.now ≡ ctrl_forms (texts words.now) }
+    ensures { result.now ≡ call_forms (calls.Library libraries.Ctrl) (texts words.now) }
 {
     match words {
         [] => &[Form::Query],
@@ -37,7 +43,7 @@ fn ctrl_forms(words: &[&[u8]]) -> &'static [Form]
 }
 
 fn field_forms(field: Option<AttrField>) -> &'static [Form]
-    ensures { result.now ≡ field_forms field }
+    ensures { result.now ≡ form.Operand ∷ form.Field ∷ value_forms field }
 {
     match field {
         Some(AttrField::Name) => &[Form::Operand, Form::Field, Form::Name],
@@ -46,7 +52,7 @@ fn field_forms(field: Option<AttrField>) -> &'static [Form]
 }
 
 fn set_forms(words: &[&[u8]]) -> &'static [Form]
-    ensures { result.now ≡ set_forms (texts words.now) }
+    ensures { result.now ≡ call_forms (calls.Attributes attributes.Set) (texts words.now) }
 {
     match words {
         [_, f, ..] => field_forms(field(f)),
@@ -55,7 +61,7 @@ fn set_forms(words: &[&[u8]]) -> &'static [Form]
 }
 
 fn library_forms(word: LibraryWord, words: &[&[u8]]) -> &'static [Form]
-    ensures { result.now ≡ library_forms word (texts words.now) }
+    ensures { result.now ≡ call_forms (calls.Library word) (texts words.now) }
 {
     match word {
         LibraryWord::Kill => &[],
@@ -64,7 +70,7 @@ fn library_forms(word: LibraryWord, words: &[&[u8]]) -> &'static [Form]
 }
 
 fn attribute_forms(word: AttributeWord, words: &[&[u8]]) -> &'static [Form]
-    ensures { result.now ≡ attribute_forms word (texts words.now) }
+    ensures { result.now ≡ call_forms (calls.Attributes word) (texts words.now) }
 {
     match word {
         AttributeWord::New => &[],
@@ -77,7 +83,7 @@ fn attribute_forms(word: AttributeWord, words: &[&[u8]]) -> &'static [Form]
 }
 
 fn thread_forms(word: ThreadWord) -> &'static [Form]
-    ensures { result.now ≡ thread_forms word }
+    ensures { result.now ≡ (thread_syntax word).forms }
 {
     match word {
         ThreadWord::Spawn => &[Form::Operand, Form::Operand, Form::Operand],
@@ -96,7 +102,7 @@ fn thread_forms(word: ThreadWord) -> &'static [Form]
 }
 
 fn utility_forms(word: UtilityWord) -> &'static [Form]
-    ensures { result.now ≡ utility_forms word }
+    ensures { result.now ≡ (utility_syntax word).forms }
 {
     match word {
         UtilityWord::Fdmode => &[Form::Operand, Form::Operand],
@@ -105,7 +111,7 @@ fn utility_forms(word: UtilityWord) -> &'static [Form]
 }
 
 fn cancellation_forms(word: CancellationWord) -> &'static [Form]
-    ensures { result.now ≡ cancellation_forms word }
+    ensures { result.now ≡ (cancellation_syntax word).forms }
 {
     match word {
         CancellationWord::Point => &[],
@@ -114,7 +120,7 @@ fn cancellation_forms(word: CancellationWord) -> &'static [Form]
 }
 
 fn new_event_forms(word: NewEventWord) -> &'static [Form]
-    ensures { result.now ≡ new_event_forms word }
+    ensures { result.now ≡ (new_event_syntax word).forms }
 {
     match word {
         NewEventWord::Fd => &[Form::Goals, Form::Operand],
@@ -128,7 +134,7 @@ fn new_event_forms(word: NewEventWord) -> &'static [Form]
 }
 
 fn chained_forms(event: Option<NewEventWord>) -> &'static [Form]
-    ensures { result.now ≡ chained_forms event }
+    ensures { result.now ≡ form.Operand ∷ form.Event ∷ event_forms event }
 {
     match event {
         None => &[Form::Operand, Form::Event],
@@ -155,7 +161,7 @@ fn chained_forms(event: Option<NewEventWord>) -> &'static [Form]
 }
 
 fn chain_forms(words: &[&[u8]]) -> &'static [Form]
-    ensures { result.now ≡ chain_forms (texts words.now) }
+    ensures { result.now ≡ call_forms (calls.Events events.Chain) (texts words.now) }
 {
     match words {
         [_, word, ..] => chained_forms(new_event_word(word)),
@@ -164,7 +170,7 @@ fn chain_forms(words: &[&[u8]]) -> &'static [Form]
 }
 
 fn event_forms(word: EventWord, words: &[&[u8]]) -> &'static [Form]
-    ensures { result.now ≡ event_forms word (texts words.now) }
+    ensures { result.now ≡ call_forms (calls.Events word) (texts words.now) }
 {
     match word {
         EventWord::New(word) => new_event_forms(word),
@@ -179,7 +185,7 @@ fn event_forms(word: EventWord, words: &[&[u8]]) -> &'static [Form]
 }
 
 fn key_forms(word: KeyStorageWord) -> &'static [Form]
-    ensures { result.now ≡ key_forms word }
+    ensures { result.now ≡ (key_syntax word).forms }
 {
     match word {
         KeyStorageWord::Create => &[Form::MaybeOperand],
@@ -190,7 +196,7 @@ fn key_forms(word: KeyStorageWord) -> &'static [Form]
 }
 
 fn port_forms(word: PortWord) -> &'static [Form]
-    ensures { result.now ≡ port_forms word }
+    ensures { result.now ≡ (port_syntax word).forms }
 {
     match word {
         PortWord::Create => &[Form::MaybeName],
@@ -204,7 +210,7 @@ fn port_forms(word: PortWord) -> &'static [Form]
 }
 
 fn cleanup_forms(word: CleanupWord) -> &'static [Form]
-    ensures { result.now ≡ cleanup_forms word }
+    ensures { result.now ≡ (cleanup_syntax word).forms }
 {
     match word {
         CleanupWord::Push => &[Form::Operand, Form::Operand],
@@ -213,7 +219,7 @@ fn cleanup_forms(word: CleanupWord) -> &'static [Form]
 }
 
 fn mutex_forms(word: MutexWord) -> &'static [Form]
-    ensures { result.now ≡ mutex_forms word }
+    ensures { result.now ≡ (mutex_syntax word).forms }
 {
     match word {
         MutexWord::Init => &[Form::Operand],
@@ -223,7 +229,7 @@ fn mutex_forms(word: MutexWord) -> &'static [Form]
 }
 
 fn rwlock_forms(word: RwlockWord) -> &'static [Form]
-    ensures { result.now ≡ rwlock_forms word }
+    ensures { result.now ≡ (rwlock_syntax word).forms }
 {
     match word {
         RwlockWord::Init => &[Form::Operand],
@@ -233,7 +239,7 @@ fn rwlock_forms(word: RwlockWord) -> &'static [Form]
 }
 
 fn condition_forms(word: ConditionWord) -> &'static [Form]
-    ensures { result.now ≡ condition_forms word }
+    ensures { result.now ≡ (condition_syntax word).forms }
 {
     match word {
         ConditionWord::Init => &[Form::Operand],
@@ -243,7 +249,7 @@ fn condition_forms(word: ConditionWord) -> &'static [Form]
 }
 
 fn barrier_forms(word: BarrierWord) -> &'static [Form]
-    ensures { result.now ≡ barrier_forms word }
+    ensures { result.now ≡ (barrier_syntax word).forms }
 {
     match word {
         BarrierWord::Init => &[Form::Operand, Form::Operand],
@@ -252,7 +258,7 @@ fn barrier_forms(word: BarrierWord) -> &'static [Form]
 }
 
 fn io_forms(word: IoWord) -> &'static [Form]
-    ensures { result.now ≡ io_forms word }
+    ensures { result.now ≡ (io_syntax word).forms }
 {
     match word {
         IoWord::Usleep => &[Form::Operand],

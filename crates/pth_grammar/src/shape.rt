@@ -9,8 +9,8 @@ ghost use Rattle.pth_spelling.specs.Texts.{texts};
 
 use crate::forms::{call_forms, forms_of};
 use crate::section::Section;
-use pth_forms::form::Form;
 use pth_spelling::first_word::{begins, call_word};
+use pth_spelling::form::Form;
 use pth_spelling::words::register;
 
 /// What a line asks of its words.

@@ -6,8 +6,8 @@ use Rattle.pth_spelling.specs.Keywords.{begins, entry_word}
 use Rattle.pth_spelling.specs.declared.keyword.EntryWord.{EntryWord}
 use Rattle.pth_spelling.specs.declared.keyword.EntryWord.TheVariants as entries
 use Rattle.pth_spelling.specs.declared.keyword.Keyword.TheVariants as key
-use Rattle.pth_forms.specs.declared.form.Form.{Form}
-use Rattle.pth_forms.specs.declared.form.Form.TheVariants as form
+use Rattle.pth_spelling.specs.declared.form.Form.{Form}
+use Rattle.pth_spelling.specs.declared.form.Form.TheVariants as form
 use Rattle.pth_forms.proofs.Options.{some_map, some_then}
 use Rattle.pth_forms.proofs.Fine.{AllFine, IsFine, Reads, within, descriptor, entry, pairs}
 use Rattle.pth_kernel_lines.specs.KernelNumbers.{ticks_of, time_of, room_of}

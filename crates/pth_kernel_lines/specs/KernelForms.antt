@@ -6,8 +6,8 @@ use Rattle.pth_spelling.specs.declared.keyword.EntryWord.{EntryWord}
 use Rattle.pth_spelling.specs.declared.keyword.EntryWord.TheVariants as entries
 use Rattle.pth_spelling.specs.declared.keyword.Keyword.{Keyword}
 use Rattle.pth_spelling.specs.declared.keyword.Keyword.TheVariants as key
-use Rattle.pth_forms.specs.declared.form.Form.{Form}
-use Rattle.pth_forms.specs.declared.form.Form.TheVariants as form
+use Rattle.pth_spelling.specs.declared.form.Form.{Form}
+use Rattle.pth_spelling.specs.declared.form.Form.TheVariants as form
 use Rattle.pth_kernel_lines.specs.declared.part.KernelPart.{KernelPart}
 use Rattle.pth_kernel_lines.specs.declared.part.KernelPart.TheVariants as part
 

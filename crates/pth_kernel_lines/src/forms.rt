@@ -5,9 +5,9 @@ ghost use Rattle.pth_kernel_lines.specs.KernelForms.{entry_forms, at_forms, kern
 ghost use Rattle.pth_spelling.specs.Texts.{texts};
 
 use crate::part::KernelPart;
-use pth_forms::form::Form;
 use pth_kernel::trace::{LATEST_TIME, MOST_CLOCK, MOST_ROOM};
 use pth_spelling::first_word::entry_word;
+use pth_spelling::form::Form;
 use pth_spelling::keyword::{EntryWord, Keyword};
 
 /// How many microseconds a turn takes.

@@ -1,92 +1,29 @@
 -- Calls as words.
-use Rattle.std.specs.Prelude.{List, [], ℕ, ◌∷◌, Some, None, codes}
+use Rattle.std.specs.Prelude.{ℕ, List, [], ◌∷◌, Option, Some, None, codes, map}
 use Rattle.pth_base.specs.declared.call.Call.{Call}
 use Rattle.pth_base.specs.declared.call.Call.TheVariants as call
-use Rattle.pth_print.specs.WordTexts.{number_word, hex_word}
-use Rattle.pth_print.specs.Sets.{set_word}
-use Rattle.pth_print.specs.Queries.{ctrl_words}
-use Rattle.pth_print.specs.Attrs.{attr_set_words, field_word}
-use Rattle.pth_print.specs.EventLines.{goals_word, state_word, walk_word, which_word, chain_words}
-use Rattle.pth_print.specs.LockModes.{mode_word}
+use Rattle.pth_base.specs.declared.event.EvLine.{EvLine}
+use Rattle.pth_spelling.specs.Syntax.{syntax_of}
+use Rattle.pth_print.specs.ArgWords.{arg_word}
+use Rattle.pth_print.specs.Args.{Arg}
+use Rattle.pth_print.specs.Parts.{Parts, event_args, parts_of}
+use Rattle.pth_print.specs.WordTexts.{number_word}
 
--- a call
+-- operands
+abbrev pub arg_words : List Arg → List (List ℕ)
+arg_words os = map (λ o. arg_word o) os
+
+-- the word of a call and its operands
+abbrev pub words_of : Option Parts → List (List ℕ)
+words_of (Some p) = (syntax_of p.word).text ∷ arg_words p.operands
+words_of None = []
+
+-- a call, or a line of a body that calls nothing
 abbrev pub call_words : Call → List (List ℕ)
-call_words call.Kill = codes "kill" ∷ []
-call_words (call.Ctrl query) = ctrl_words query
-call_words call.AttrNew = codes "attr_new" ∷ []
-call_words (call.AttrOf t) = codes "attr_of" ∷ number_word t ∷ []
-call_words (call.AttrInit a) = codes "attr_init" ∷ number_word a ∷ []
-call_words (call.AttrSet a v) = attr_set_words a v
-call_words (call.AttrGet a f) = codes "attr_get" ∷ number_word a ∷ field_word f ∷ []
-call_words (call.AttrDestroy a) = codes "attr_destroy" ∷ number_word a ∷ []
-call_words (call.Spawn b v a) = codes "spawn" ∷ number_word b ∷ number_word v ∷ number_word a ∷ []
-call_words (call.Once o h v) = codes "once" ∷ number_word o ∷ number_word h ∷ number_word v ∷ []
-call_words call.SelfTid = codes "self" ∷ []
-call_words (call.Suspend t) = codes "suspend" ∷ number_word t ∷ []
-call_words (call.Resume t) = codes "resume" ∷ number_word t ∷ []
-call_words (call.Yield t) = codes "yield" ∷ number_word t ∷ []
-call_words (call.Nap l) = codes "nap" ∷ number_word l ∷ []
-call_words (call.Wait e) = codes "wait" ∷ number_word e ∷ []
-call_words (call.Cancel t) = codes "cancel" ∷ number_word t ∷ []
-call_words (call.Abort t) = codes "abort" ∷ number_word t ∷ []
-call_words (call.Join t) = codes "join" ∷ number_word t ∷ []
-call_words (call.Exit v) = codes "exit" ∷ number_word v ∷ []
-call_words (call.Fdmode f m) = codes "fdmode" ∷ number_word f ∷ number_word m ∷ []
-call_words (call.Timeout l) = codes "timeout" ∷ number_word l ∷ []
-call_words call.CancelPoint = codes "cancel_point" ∷ []
-call_words (call.CancelState n) = codes "cancel_state" ∷ number_word n ∷ []
-call_words (call.EvFd goals fd) = codes "ev_fd" ∷ goals_word goals ∷ number_word fd ∷ []
-call_words (call.EvSelect r w x) = codes "ev_select" ∷ set_word r.0 ∷ set_word w.0 ∷ set_word x.0 ∷ []
-call_words (call.EvTime m) = codes "ev_time" ∷ number_word m ∷ []
-call_words (call.EvMsg p) = codes "ev_msg" ∷ number_word p ∷ []
-call_words (call.EvCond c) = codes "ev_cond" ∷ number_word c ∷ []
-call_words (call.EvTid state tid) = codes "ev_tid" ∷ state_word state ∷ number_word tid ∷ []
-call_words (call.EvFunc check arg interval) = codes "ev_func" ∷ number_word check ∷ number_word arg ∷ number_word interval ∷ []
-call_words (call.Chain e line) = chain_words e line
-call_words (call.EvConcat e f) = codes "ev_concat" ∷ number_word e ∷ number_word f ∷ []
-call_words (call.EvIsolate e) = codes "ev_isolate" ∷ number_word e ∷ []
-call_words (call.EvWalk e forward until_occurred) = codes "ev_walk" ∷ number_word e ∷ walk_word forward until_occurred ∷ []
-call_words (call.EvStatus e) = codes "ev_status" ∷ number_word e ∷ []
-call_words (call.EvKind e) = codes "ev_kind" ∷ number_word e ∷ []
-call_words (call.EvFree e all) = codes "ev_free" ∷ number_word e ∷ which_word all ∷ []
-call_words (call.KeyCreate (Some h)) = codes "key_create" ∷ number_word h ∷ []
-call_words (call.KeyCreate None) = codes "key_create" ∷ codes "-" ∷ []
-call_words (call.KeyDelete k) = codes "key_delete" ∷ number_word k ∷ []
-call_words (call.KeySet k v) = codes "key_set" ∷ number_word k ∷ number_word v ∷ []
-call_words (call.KeyGet k) = codes "key_get" ∷ number_word k ∷ []
-call_words (call.PortCreate (Some name)) = codes "port_create" ∷ name ∷ []
-call_words (call.PortCreate None) = codes "port_create" ∷ codes "-" ∷ []
-call_words (call.PortFind name) = codes "port_find" ∷ name ∷ []
-call_words (call.PortPending p) = codes "port_pending" ∷ number_word p ∷ []
-call_words (call.PortPut p v r) = codes "port_put" ∷ number_word p ∷ number_word v ∷ number_word r ∷ []
-call_words (call.PortGet p) = codes "port_get" ∷ number_word p ∷ []
-call_words (call.Reply m v) = codes "reply" ∷ number_word m ∷ number_word v ∷ []
-call_words (call.PortDestroy p) = codes "port_destroy" ∷ number_word p ∷ []
-call_words (call.CleanupPush h v) = codes "cleanup_push" ∷ number_word h ∷ number_word v ∷ []
-call_words (call.CleanupPop v) = codes "cleanup_pop" ∷ number_word v ∷ []
-call_words (call.MutexInit m) = codes "mutex_init" ∷ number_word m ∷ []
-call_words (call.MutexAcquire m v e) = codes "mutex_acquire" ∷ number_word m ∷ number_word v ∷ number_word e ∷ []
-call_words (call.MutexRelease m) = codes "mutex_release" ∷ number_word m ∷ []
-call_words (call.RwInit l) = codes "rw_init" ∷ number_word l ∷ []
-call_words (call.RwAcquire l write v e) = codes "rw_acquire" ∷ number_word l ∷ mode_word write ∷ number_word v ∷ number_word e ∷ []
-call_words (call.RwRelease l) = codes "rw_release" ∷ number_word l ∷ []
-call_words (call.CondInit c) = codes "cond_init" ∷ number_word c ∷ []
-call_words (call.CondAwait c m e) = codes "cond_await" ∷ number_word c ∷ number_word m ∷ number_word e ∷ []
-call_words (call.CondNotify c v) = codes "cond_notify" ∷ number_word c ∷ number_word v ∷ []
-call_words (call.BarrierInit b n) = codes "barrier_init" ∷ number_word b ∷ number_word n ∷ []
-call_words (call.BarrierReach b) = codes "barrier_reach" ∷ number_word b ∷ []
-call_words (call.Usleep l) = codes "usleep" ∷ number_word l ∷ []
-call_words (call.Sleep s) = codes "sleep" ∷ number_word s ∷ []
-call_words (call.Read f n) = codes "read" ∷ number_word f ∷ number_word n ∷ []
-call_words (call.ReadEv f n e) = codes "read_ev" ∷ number_word f ∷ number_word n ∷ number_word e ∷ []
-call_words (call.Write f bytes) = codes "write" ∷ number_word f ∷ hex_word bytes ∷ []
-call_words (call.WriteEv f bytes e) = codes "write_ev" ∷ number_word f ∷ hex_word bytes ∷ number_word e ∷ []
-call_words (call.Accept f) = codes "accept" ∷ number_word f ∷ []
-call_words (call.AcceptEv f e) = codes "accept_ev" ∷ number_word f ∷ number_word e ∷ []
-call_words (call.Connect f) = codes "connect" ∷ number_word f ∷ []
-call_words (call.ConnectEv f e) = codes "connect_ev" ∷ number_word f ∷ number_word e ∷ []
-call_words (call.Select r w x l) = codes "select" ∷ set_word r.0 ∷ set_word w.0 ∷ set_word x.0 ∷ number_word l ∷ []
-call_words (call.SelectEv r w x l e) = codes "select_ev" ∷ set_word r.0 ∷ set_word w.0 ∷ set_word x.0 ∷ number_word l ∷ number_word e ∷ []
-call_words (call.Close f) = codes "close" ∷ number_word f ∷ []
 call_words call.Plain = codes "plain" ∷ []
 call_words (call.Note v) = codes "note" ∷ number_word v ∷ []
+call_words c = words_of (parts_of c)
+
+-- an event line
+abbrev pub event_line_words : EvLine → List (List ℕ)
+event_line_words line = arg_words (event_args line)

@@ -1,13 +1,12 @@
 pub mod Adding
 pub mod SpacedWords
 pub mod WordTexts
+pub mod Sets
+pub mod Args
+pub mod Parts
+pub mod ArgWords
 pub mod CallWords
 pub mod AnswerWords
 pub mod MarkLines
 pub mod EndLines
 pub mod FaultLines
-pub mod Sets
-pub mod EventLines
-pub mod Attrs
-pub mod Queries
-pub mod LockModes

@@ -2,7 +2,9 @@
 
 ghost use Rattle.std.specs.Prelude.{◌≡◌, [], ◌∷◌, codes};
 ghost use Rattle.pth_print.specs.Adding.{AddsText};
-ghost use Rattle.pth_print.specs.Attrs.{field_word, attr_set_words};
+ghost use Rattle.pth_base.specs.declared.call.Call.TheVariants as call;
+ghost use Rattle.pth_print.specs.ArgWords.{field_word};
+ghost use Rattle.pth_print.specs.CallWords.{call_words};
 ghost use Rattle.pth_print.specs.WordTexts.{number_word};
 ghost use Rattle.pth_print.specs.SpacedWords.{spaced};
 
@@ -29,7 +31,7 @@ pub fn field_word(field: AttrField) -> &'static [u8]
 
 /// Adds the words of a call that sets a field, each after a space.
 pub fn add_attr_set<'a>(a: &'a i64, value: &'a AttrValue, out: &mut Text) -> Result<(), OutOfMemory>
-    ensures { AddsText out.old out.new result (spaced (attr_set_words a.now value.now)) }
+    ensures { AddsText out.old out.new result (spaced (call_words (call.AttrSet a.now value.now))) }
 {
     match value {
         AttrValue::Prio(n) => add_field(a, b"prio", n, out),

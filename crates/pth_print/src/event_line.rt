@@ -3,7 +3,9 @@
 ghost use Rattle.std.specs.Prelude.{◌≡◌};
 ghost use Rattle.pth_print.specs.Adding.{AddsText};
 ghost use Rattle.pth_print.specs.SpacedWords.{spaced};
-ghost use Rattle.pth_print.specs.EventLines.{goals_word, state_word, walk_word, which_word, event_line_words, chain_words};
+ghost use Rattle.pth_base.specs.declared.call.Call.TheVariants as call;
+ghost use Rattle.pth_print.specs.ArgWords.{goals_word, state_word, walk_word, which_word};
+ghost use Rattle.pth_print.specs.CallWords.{call_words, event_line_words};
 
 use crate::call_shape::{add_one, add_sets, add_text_and_one, add_three};
 use pth_base::event::EvLine;
@@ -80,7 +82,7 @@ fn add_event_line(line: &EvLine, out: &mut Text) -> Result<(), OutOfMemory>
 
 /// Adds the words of a call that chains an event to a ring, each after a space.
 pub fn add_chain(e: &i64, line: &EvLine, out: &mut Text) -> Result<(), OutOfMemory>
-    ensures { AddsText out.old out.new result (spaced (chain_words e.now line.now)) }
+    ensures { AddsText out.old out.new result (spaced (call_words (call.Chain e.now line.now))) }
 {
     add_one(b"chain", e, out)?;
     add_event_line(line, out)

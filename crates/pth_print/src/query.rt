@@ -2,7 +2,10 @@
 
 ghost use Rattle.std.specs.Prelude.{◌≡◌};
 ghost use Rattle.pth_print.specs.Adding.{AddsText};
-ghost use Rattle.pth_print.specs.Queries.{ctrl_words, query_word};
+ghost use Rattle.pth_base.specs.declared.call.Call.TheVariants as call;
+ghost use Rattle.pth_print.specs.ArgWords.{query_word};
+ghost use Rattle.pth_print.specs.CallWords.{call_words};
+ghost use Rattle.pth_print.specs.Parts.{asked};
 ghost use Rattle.pth_print.specs.SpacedWords.{spaced};
 
 use crate::call_shape::{add_text, add_text_and_one};
@@ -12,7 +15,7 @@ use pth_text::text::Text;
 
 /// What is asked, as a word.
 fn query_word(query: &Query) -> &'static [u8]
-    ensures { result.now ≡ query_word query.now }
+    ensures { result.now ≡ query_word (asked query.now) }
 {
     match query {
         Query::Threads => b"threads",
@@ -30,7 +33,7 @@ fn query_word(query: &Query) -> &'static [u8]
 
 /// Adds the words of a query, each after a space.
 pub fn add_query(query: &Query, out: &mut Text) -> Result<(), OutOfMemory>
-    ensures { AddsText out.old out.new result (spaced (ctrl_words query.now)) }
+    ensures { AddsText out.old out.new result (spaced (call_words (call.Ctrl query.now))) }
 {
     let word = query_word(query);
     match query {

@@ -6,7 +6,7 @@ ghost use Rattle.pth_base.specs.declared.facility.Facility.TheVariants as facili
 ghost use Rattle.pth_print.specs.Adding.{AddsText};
 ghost use Rattle.pth_print.specs.SpacedWords.{spaced};
 ghost use Rattle.pth_print.specs.CallWords.{call_words};
-ghost use Rattle.pth_print.specs.LockModes.{mode_word};
+ghost use Rattle.pth_print.specs.ArgWords.{mode_word};
 
 use crate::call_shape::{add_one, add_taking};
 use pth_base::call::Call;

@@ -1,4 +1,5 @@
 pub mod Texts
 pub mod Named
 pub mod WordMeanings
+pub mod Syntax
 pub mod Keywords

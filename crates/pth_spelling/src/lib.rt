@@ -7,6 +7,7 @@
 
 pub mod direction;
 pub mod first_word;
+pub mod form;
 pub mod keyword;
 pub mod named;
 pub mod words;

@@ -1,6 +1,6 @@
 use Rattle.std.proofs.Common.{[], ◌∷◌, codes}
 use Rattle.std.proofs.lemmas.Result.{err_from_is_err_and}
-use Rattle.pth_print.specs.EventLines.{event_line_words}
+use Rattle.pth_print.specs.CallWords.{event_line_words}
 use Rattle.pth_print.specs.WordTexts.{number_word}
 use Rattle.pth_print.proofs.Cuts.{spaced_cut}
 use Rattle.pth_print.proofs.event_line.add_chain.Goals as goal
