@@ -7,6 +7,7 @@
 //! nothing is said of them.
 #![tactic(auto)]
 
+mod help;
 mod judge;
 mod living;
 mod run;
@@ -15,4 +16,5 @@ mod top;
 pub mod verdict;
 mod words;
 
+pub use help::HELP;
 pub use top::{PROGRAM, check};

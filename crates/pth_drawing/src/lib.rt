@@ -8,6 +8,7 @@
 pub mod chart;
 pub mod drawing;
 pub mod example;
+mod help;
 mod lanes;
 pub mod laws;
 mod piece;
@@ -20,4 +21,5 @@ mod top;
 mod track;
 pub mod words;
 
+pub use help::HELP;
 pub use top::{PROGRAM, draw};

@@ -1,12 +1,14 @@
 //! The program: the words and the real objects are handed to `draw`, and its status is the exit status.
+//! Words that ask for help are answered with it.
 #![tactic(auto)]
 
-use pth_drawing::{PROGRAM, draw};
+use pth_drawing::{HELP, PROGRAM, draw};
 use pth_streams::arguments::arguments;
 use pth_streams::open_files::OpenFiles;
 use pth_streams::reading::Reading;
 use pth_streams::writing::Writing;
 use pth_transcript::fault::{Fault, report_fault};
+use pth_transcript::help::{asks_help, write_help};
 use std::process::ExitCode;
 
 fn main(rt: HostRuntime) -> ExitCode {
@@ -18,9 +20,13 @@ fn main(rt: HostRuntime) -> ExitCode {
             return ExitCode::from(status);
         }
     };
+    let mut out = Writing::new(rt.stdout());
+    if asks_help(words.as_slice()) {
+        let status = write_help(rt.alloc(), PROGRAM, HELP, &mut out, &mut err);
+        return ExitCode::from(status);
+    }
     let mut input = Reading::new(rt.stdin());
     let mut files = OpenFiles::new(&rt);
-    let mut out = Writing::new(rt.stdout());
     let status = draw(
         rt.alloc(),
         &words,

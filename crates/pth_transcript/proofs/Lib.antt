@@ -1,2 +1,4 @@
 pub mod LineFound
 pub mod Takings
+pub mod AskedHelp
+pub mod GivenHelp

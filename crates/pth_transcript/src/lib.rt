@@ -9,6 +9,7 @@ mod answer;
 mod call;
 pub mod ending;
 pub mod fault;
+pub mod help;
 mod lines;
 mod number;
 mod plain;
