@@ -43,8 +43,8 @@ use Rattle.pth_spelling.specs.declared.keyword.IoWord.{IoWord}
 use Rattle.pth_spelling.specs.declared.keyword.IoWord.TheVariants as ios
 use Rattle.pth_spelling.specs.declared.keyword.CallWord.{CallWord}
 use Rattle.pth_spelling.specs.declared.keyword.CallWord.TheVariants as call
-use Rattle.pth_forms.proofs.Options.{some_map, some_then}
-use Rattle.pth_forms.proofs.Fine.{AllFine, IsFine, operand, maybe_operand, name, maybe_name, set, goals, which, field as field_word, state, mode, direction, query, event, byte_operand}
+use Rattle.pth_spelling.proofs.Options.{some_map, some_then}
+use Rattle.pth_spelling.proofs.Fine.{AllFine, IsFine, operand, maybe_operand, name, maybe_name, set, goals, which, field as field_word, state, mode, direction, query, event, byte_operand}
 use Rattle.pth_grammar.proofs.RowLemmas.{numbers0, numbers1, numbers2, numbers3, row1, row2, row3, row4, row5}
 
 -- ---- lines whose later words depend on an earlier one

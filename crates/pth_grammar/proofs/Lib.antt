@@ -1,3 +1,5 @@
 pub mod CallLines
 pub mod RowLemmas
+pub mod KernelReadable
+pub mod KernelRanges
 pub mod Readable

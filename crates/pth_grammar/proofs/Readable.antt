@@ -4,28 +4,29 @@ use Rattle.std.specs.Prelude.{is_some, option_and_then, option_map, codes}
 use Rattle.std.specs.List.{find}
 use Rattle.std.specs.Str.{bytes_eq}
 use Rattle.std.proofs.lemmas.Bool.Decides.{nat_tests}
-use Rattle.pth_grammar.specs.CallLines.{call_line}
 use Rattle.pth_grammar.specs.Forms.{call_forms, act_forms, body_forms, forms_of}
-use Rattle.pth_spelling.specs.Keywords.{call_word, keyword_of, begins}
-use Rattle.pth_grammar.specs.LineMeanings.{line_by, answered_line, line_of, act_with, act_by, act_of, check_by, check_of}
-use Rattle.pth_grammar.specs.Shapes.{Shape, Unequal, Asks, shape_by_forms, after_register, takes_answer, shape_of, words_break, word_rules, words_fault}
-use Rattle.pth_spelling.specs.WordMeanings.{register_of}
+use Rattle.pth_spelling.specs.Starts.{begins, keyword_in, start_of}
+use Rattle.pth_grammar.specs.LineMeanings.{line_begun, line_by, line_of, act_begun, act_with, act_by, act_of, check_by, check_of}
+use Rattle.pth_grammar.specs.Shapes.{Shape, Unequal, Asks, shape_by_forms, after_register, shape_begun, shape_of, words_break, word_rules, words_fault}
+use Rattle.pth_line.specs.declared.operand.Register.{Register}
+use Rattle.pth_spelling.specs.declared.start.Start.{Start}
+use Rattle.pth_spelling.specs.declared.start.Start.TheVariants as start
 use Rattle.pth_spelling.specs.declared.form.Form.{Form}
 use Rattle.pth_spelling.specs.declared.form.Form.TheVariants as form
 use Rattle.pth_spelling.specs.declared.keyword.CallWord.{CallWord}
 use Rattle.pth_spelling.specs.declared.keyword.Keyword.{Keyword}
 use Rattle.pth_spelling.specs.declared.keyword.Keyword.TheVariants as key
 use Rattle.pth_text.specs.declared.rule.Rule.TheVariants as rule
-use Rattle.pth_kernel_lines.specs.declared.part.KernelPart.{KernelPart}
-use Rattle.pth_kernel_lines.specs.declared.part.KernelPart.TheVariants as part
-use Rattle.pth_kernel_lines.specs.KernelLines.{clock_line, open_line, stamp_line}
-use Rattle.pth_kernel_lines.proofs.Readable.{clock_stands, open_stands, stamp_stands}
+use Rattle.pth_grammar.specs.declared.kernel_part.KernelPart.{KernelPart}
+use Rattle.pth_grammar.specs.declared.kernel_part.KernelPart.TheVariants as part
+use Rattle.pth_grammar.specs.KernelLines.{clock_line, open_line, stamp_line}
+use Rattle.pth_grammar.proofs.KernelReadable.{clock_stands, open_stands, stamp_stands}
 use Rattle.pth_grammar.specs.declared.section.Section.{Section}
 use Rattle.pth_grammar.specs.declared.section.Section.TheVariants as sec
 use Rattle.pth_grammar.proofs.CallLines.{callable}
-use Rattle.pth_forms.specs.Forms.{wrong}
-use Rattle.pth_forms.proofs.Options.{some_map, some_then}
-use Rattle.pth_forms.proofs.Fine.{AllFine, natural, operand, register, value, shared, relation}
+use Rattle.pth_spelling.specs.FormRules.{wrong}
+use Rattle.pth_spelling.proofs.Options.{some_map, some_then}
+use Rattle.pth_spelling.proofs.Fine.{AllFine, natural, operand, register, value, shared, relation}
 use Rattle.pth_grammar.proofs.RowLemmas.{values1, values2, row1, row2, row4}
 
 -- ---- words that break no rule
@@ -76,43 +77,31 @@ unfolding words_break
 begun_by s k ws (Some fs) e h = record { forms = fs; allowed = e; fine = all_fine fs ws h }
 begun_by s k ws None e h = absurd (cc)
 
-no_register : (b : Bool) (o : Option Keyword) (k : Keyword) → cond b None o ≡ Some k → b ≡ false
-no_register true o k h = absurd (cc)
-no_register false o k h = refl
+same_keyword : (j k : Keyword) → Some j ≡ Some k → j ≡ k
+same_keyword j k e = cc
 
-no_answer : (s : Section) (w : List ℕ) → is_some (register_of w) ≡ false → takes_answer s w ≡ false
-no_answer sec.Body w h = h
-no_answer sec.Handlers w h = refl
-no_answer sec.Handler w h = refl
-no_answer sec.Checks w h = refl
-no_answer sec.Bodies w h = refl
-no_answer (sec.Kernel part) w h = refl
+begun_with : (st : Start) (s : Section) (ws : List (List ℕ)) (k : Keyword) → IsFineShape (shape_begun st s ws) → keyword_in st ≡ Some k → IsBegun s k ws
+begun_with (start.Word (Some j)) s ws k h e = subst (λ k. IsBegun s k ws) (same_keyword j k e) (begun_by s j ws (forms_of s j ws) refl h)
+begun_with (start.Word None) s ws k h e = absurd (cc)
+begun_with (start.Answer r c) s ws k h e = absurd (cc)
 
-pub begun : (s : Section) (w : List ℕ) (ws : List (List ℕ)) (k : Keyword) → words_fault s (w ∷ ws) ≡ None → begins (w ∷ ws) ≡ Some k → IsBegun s k ws
+pub begun : (s : Section) (ws : List (List ℕ)) (k : Keyword) → words_fault s ws ≡ None → begins ws ≡ Some k → IsBegun s k (drop 1 ws)
 unfolding words_fault shape_of begins
-begun s w ws k h e =
-    let plain = no_register (is_some (register_of w)) (keyword_of w) k e in
-    begun_by s k ws (forms_of s k ws) refl
-    (subst (λ o. IsFineShape (shape_by_forms ws (option_and_then (λ k. forms_of s k ws) o))) e
-    (subst (λ b. IsFineShape (cond b (after_register ws) (shape_by_forms ws (option_and_then (λ k. forms_of s k ws) (begins (w ∷ ws)))))) (no_answer s w plain) h))
+begun s ws k h e = begun_with (start_of ws) s (drop 1 ws) k h e
 
 -- ---- a body's lines
 
-called_by : (o : Option CallWord) (ws : List (List ℕ)) → IsFineShape (shape_by_forms ws (option_map (λ w. call_forms w ws) o)) → is_some (option_and_then (λ w. call_line w ws) o) ≡ true
+answered_by : (b : Bool) (r : Register) (k : Option CallWord) (e w : List ℕ) (ws : List (List ℕ)) → IsFineShape (cond b (shape_by_forms ws (option_map (λ k. call_forms k ws) k)) Unequal) → is_some (line_begun (start.Answer r k) (e ∷ w ∷ ws)) ≡ true
 unfolding words_break
-called_by (Some k) ws h = callable k ws (all_fine _ ws h)
-called_by None ws h = absurd (cc)
+answered_by true r (Some k) e w ws h = some_map _ _ (callable k ws (all_fine _ ws h))
+answered_by true r None e w ws h = absurd (cc)
+answered_by false r k e w ws h = absurd (cc)
 
-answered_by : (b : Bool) (d e k : List ℕ) (ws : List (List ℕ)) → is_some (register_of d) ≡ true → IsFineShape (cond b (shape_by_forms ws (option_map (λ w. call_forms w ws) (call_word k))) Unequal) → is_some (answered_line (d ∷ e ∷ k ∷ ws)) ≡ true
+answered : (r : Register) (k : Option CallWord) (ws : List (List ℕ)) → IsFineShape (after_register k ws) → is_some (line_begun (start.Answer r k) ws) ≡ true
 unfolding words_break
-answered_by true d e k ws r h = some_then (register_of d) _ r (λ x. some_map _ _ (called_by (call_word k) ws h))
-answered_by false d e k ws r h = absurd (cc)
-
-answered : (d : List ℕ) (ws : List (List ℕ)) → is_some (register_of d) ≡ true → IsFineShape (after_register ws) → is_some (answered_line (d ∷ ws)) ≡ true
-unfolding words_break
-answered d [] r h = absurd (cc)
-answered d (e ∷ []) r h = absurd (cc)
-answered d (e ∷ k ∷ ws) r h = answered_by (bytes_eq e (codes "=")) d e k ws r h
+answered r k [] h = absurd (cc)
+answered r k (e ∷ []) h = absurd (cc)
+answered r k (e ∷ w ∷ ws) h = answered_by (bytes_eq e (codes "=")) r k e w ws h
 
 plain : (k : Keyword) (ws : List (List ℕ)) → IsFineShape (shape_by_forms ws (body_forms k ws)) → (k ≡ key.End → ⊥) → is_some (line_by (Some k) ws) ≡ true
 unfolding words_break
@@ -130,14 +119,13 @@ unfolding words_break
 keyed (Some k) ws h n = plain k ws h (λ e. n (ap (λ k. Some k) e))
 keyed None ws h n = absurd (cc)
 
-body_by : (b : Bool) (w : List ℕ) (ws : List (List ℕ)) → is_some (register_of w) ≡ b → IsFineShape (cond b (after_register ws) (shape_by_forms ws (option_and_then (λ k. body_forms k ws) (cond b None (keyword_of w))))) → (cond b None (keyword_of w) ≡ Some key.End → ⊥) → is_some (cond b (answered_line (w ∷ ws)) (line_by (keyword_of w) ws)) ≡ true
-body_by true w ws r h n = answered w ws r h
-body_by false w ws r h n = keyed (keyword_of w) ws h n
+body_begun : (st : Start) (ws : List (List ℕ)) → IsFineShape (shape_begun st sec.Body ws) → (keyword_in st ≡ Some key.End → ⊥) → is_some (line_begun st ws) ≡ true
+body_begun (start.Word k) ws h n = keyed k ws h n
+body_begun (start.Answer r k) ws h n = answered r k ws h
 
 pub body_readable : (ws : List (List ℕ)) → words_fault sec.Body ws ≡ None → (begins ws ≡ Some key.End → ⊥) → is_some (line_of ws) ≡ true
-unfolding words_fault words_break shape_of line_of begins
-body_readable [] h n = absurd (cc)
-body_readable (w ∷ ws) h n = body_by (is_some (register_of w)) w ws refl h n
+unfolding words_fault shape_of line_of begins
+body_readable ws h n = body_begun (start_of ws) (drop 1 ws) h n
 
 -- ---- a handler's acts
 
@@ -152,16 +140,15 @@ acted key.SetKey ws h n = values2 (act_with key.SetKey) ws (λ x y. refl) (all_f
 acted key.End ws h n = absurd (n refl)
 acted _ ws h n = absurd (cc)
 
-act_by_keyword : (b : Bool) (o : Option Keyword) (ws : List (List ℕ)) → IsFineShape (shape_by_forms ws (option_and_then (λ k. act_forms k) (cond b None o))) → (cond b None o ≡ Some key.End → ⊥) → is_some (act_by o ws) ≡ true
+acts_begun : (st : Start) (ws : List (List ℕ)) → IsFineShape (shape_begun st sec.Handler ws) → (keyword_in st ≡ Some key.End → ⊥) → is_some (act_begun st ws) ≡ true
 unfolding words_break
-act_by_keyword false (Some k) ws h n = acted k ws h (λ e. n (ap (λ k. Some k) e))
-act_by_keyword false None ws h n = absurd (cc)
-act_by_keyword true o ws h n = absurd (cc)
+acts_begun (start.Word (Some k)) ws h n = acted k ws h (λ e. n (ap (λ k. Some k) e))
+acts_begun (start.Word None) ws h n = absurd (cc)
+acts_begun (start.Answer r k) ws h n = absurd (cc)
 
 pub act_readable : (ws : List (List ℕ)) → words_fault sec.Handler ws ≡ None → (begins ws ≡ Some key.End → ⊥) → is_some (act_of ws) ≡ true
-unfolding words_fault words_break shape_of act_of begins
-act_readable [] h n = absurd (cc)
-act_readable (w ∷ ws) h n = act_by_keyword (is_some (register_of w)) (keyword_of w) ws h n
+unfolding words_fault shape_of act_of begins
+act_readable ws h n = acts_begun (start_of ws) (drop 1 ws) h n
 
 -- ---- checks
 
@@ -190,29 +177,24 @@ checked (sec.Kernel part.Head) ws fs e = absurd (cc)
 checked (sec.Kernel part.Opens) ws fs e = absurd (cc)
 checked (sec.Kernel part.Entries) ws fs e = absurd (cc)
 
+checked_by : (s : Section) (ws : List (List ℕ)) → IsBegun s key.Check (drop 1 ws) → begins ws ≡ Some key.Check → is_some (check_of ws) ≡ true
+unfolding check_of begins start_of
+checked_by s [] b e = absurd (cc)
+checked_by s (w ∷ ws) b e = check_fine ws (subst (λ fs. AllFine fs ws) (sym (checked s ws b.forms b.allowed)) b.fine)
+
 pub check_readable : (s : Section) (ws : List (List ℕ)) → words_fault s ws ≡ None → begins ws ≡ Some key.Check → is_some (check_of ws) ≡ true
-unfolding words_fault words_break shape_of check_of begins
-check_readable s [] h e = absurd (cc)
-check_readable s (w ∷ ws) h e =
-    let b = begun s w ws key.Check h e in
-    check_fine ws (subst (λ fs. AllFine fs ws) (sym (checked s ws b.forms b.allowed)) b.fine)
+check_readable s ws h e = checked_by s ws (begun s ws key.Check h e) e
 
 -- ---- the lines of a kernel
 
 pub clock_readable : (p : KernelPart) (ws : List (List ℕ)) → words_fault (sec.Kernel p) ws ≡ None → begins ws ≡ Some key.Clock → is_some (clock_line ws) ≡ true
-unfolding begins
-clock_readable p [] h e = absurd (cc)
-clock_readable p (w ∷ ws) h e = let b = begun (sec.Kernel p) w ws key.Clock h e in clock_stands p (w ∷ ws) b.forms e b.allowed b.fine
+clock_readable p ws h e = let b = begun (sec.Kernel p) ws key.Clock h e in clock_stands p ws b.forms e b.allowed b.fine
 
 pub open_readable : (p : KernelPart) (ws : List (List ℕ)) → words_fault (sec.Kernel p) ws ≡ None → begins ws ≡ Some key.Open → is_some (open_line ws) ≡ true
-unfolding begins
-open_readable p [] h e = absurd (cc)
-open_readable p (w ∷ ws) h e = let b = begun (sec.Kernel p) w ws key.Open h e in open_stands p (w ∷ ws) b.forms e b.allowed b.fine
+open_readable p ws h e = let b = begun (sec.Kernel p) ws key.Open h e in open_stands p ws b.forms e b.allowed b.fine
 
 pub stamp_readable : (p : KernelPart) (ws : List (List ℕ)) → words_fault (sec.Kernel p) ws ≡ None → begins ws ≡ Some key.At → is_some (stamp_line ws) ≡ true
-unfolding begins
-stamp_readable p [] h e = absurd (cc)
-stamp_readable p (w ∷ ws) h e = let b = begun (sec.Kernel p) w ws key.At h e in stamp_stands p (w ∷ ws) b.forms e b.allowed b.fine
+stamp_readable p ws h e = let b = begun (sec.Kernel p) ws key.At h e in stamp_stands p ws b.forms e b.allowed b.fine
 
 -- ---- lines that begin with a keyword
 
@@ -222,18 +204,18 @@ pub record IsKeyed (s : Section) (ws : List (List ℕ)) : Type 0 where
   pub first : begins ws ≡ Some keyword
   pub allowed : is_some (forms_of s keyword (drop 1 ws)) ≡ true
 
-keyed_by : (s : Section) (w : List ℕ) (ws : List (List ℕ)) (o : Option Keyword) → begins (w ∷ ws) ≡ o → IsFineShape (shape_by_forms ws (option_and_then (λ k. forms_of s k ws) o)) → words_fault s (w ∷ ws) ≡ None → IsKeyed s (w ∷ ws)
+keyed_with : (st : Start) (s : Section) (ws : List (List ℕ)) → (s ≡ sec.Body → ⊥) → IsFineShape (shape_begun st s ws) → (k : Keyword) × (keyword_in st ≡ Some k) × (is_some (forms_of s k ws) ≡ true)
 unfolding words_break
-keyed_by s w ws (Some k) e h f = record { keyword = k; first = e; allowed = ap (λ o. is_some o) (begun s w ws k f e).allowed }
-keyed_by s w ws None e h f = absurd (cc)
+keyed_with (start.Word (Some k)) s ws n h = (k, refl, ap (λ o. is_some o) (begun_by s k ws (forms_of s k ws) refl h).allowed)
+keyed_with (start.Word None) s ws n h = absurd (cc)
+keyed_with (start.Answer r k) sec.Body ws n h = absurd (n refl)
+keyed_with (start.Answer r k) sec.Handlers ws n h = absurd (cc)
+keyed_with (start.Answer r k) sec.Handler ws n h = absurd (cc)
+keyed_with (start.Answer r k) sec.Checks ws n h = absurd (cc)
+keyed_with (start.Answer r k) sec.Bodies ws n h = absurd (cc)
+keyed_with (start.Answer r k) (sec.Kernel part) ws n h = absurd (cc)
 
 -- outside a body no line begins with a register
 pub outside_keyed : (s : Section) (ws : List (List ℕ)) → (s ≡ sec.Body → ⊥) → words_fault s ws ≡ None → IsKeyed s ws
-unfolding words_fault words_break shape_of
-outside_keyed s [] n h = absurd (cc)
-outside_keyed sec.Handlers (w ∷ ws) n h = keyed_by sec.Handlers w ws (begins (w ∷ ws)) refl h h
-outside_keyed sec.Handler (w ∷ ws) n h = keyed_by sec.Handler w ws (begins (w ∷ ws)) refl h h
-outside_keyed sec.Checks (w ∷ ws) n h = keyed_by sec.Checks w ws (begins (w ∷ ws)) refl h h
-outside_keyed sec.Bodies (w ∷ ws) n h = keyed_by sec.Bodies w ws (begins (w ∷ ws)) refl h h
-outside_keyed (sec.Kernel part) (w ∷ ws) n h = keyed_by (sec.Kernel part) w ws (begins (w ∷ ws)) refl h h
-outside_keyed sec.Body (w ∷ ws) n h = absurd (n refl)
+unfolding words_fault shape_of begins
+outside_keyed s ws n h = let k = keyed_with (start_of ws) s (drop 1 ws) n h in record { keyword = k.0; first = k.1; allowed = k.2 }

@@ -11,8 +11,8 @@ use Rattle.pth_grammar.specs.declared.acts.Values.TheVariants as values
 use Rattle.pth_spelling.specs.WordMeanings.{operand_of, value_of}
 use Rattle.pth_spelling.specs.declared.form.Form.{Form}
 use Rattle.pth_spelling.specs.declared.form.Form.TheVariants as form
-use Rattle.pth_forms.proofs.Options.{some_map, some_then}
-use Rattle.pth_forms.proofs.Fine.{AllFine, Reads, operand, value}
+use Rattle.pth_spelling.proofs.Options.{some_map, some_then}
+use Rattle.pth_spelling.proofs.Fine.{AllFine, Reads, operand, value}
 
 -- ---- options
 

@@ -1,12 +1,12 @@
 -- Lines that break none of the rules on words stand for something.
 use Rattle.std.specs.Prelude.{ℕ, ◌≡◌, ◌≢◌, List, Some, None, IsSome}
-use Rattle.pth_kernel_lines.specs.KernelLines.{clock_line, open_line, stamp_line}
-use Rattle.pth_kernel_lines.specs.declared.part.KernelPart.{KernelPart}
+use Rattle.pth_grammar.specs.KernelLines.{clock_line, open_line, stamp_line}
+use Rattle.pth_grammar.specs.declared.kernel_part.KernelPart.{KernelPart}
 use Rattle.pth_grammar.specs.LineMeanings.{line_of, act_of, check_of}
 use Rattle.pth_grammar.specs.Shapes.{words_fault}
 use Rattle.pth_grammar.specs.declared.section.Section.{Section}
 use Rattle.pth_grammar.specs.declared.section.Section.TheVariants as sec
-use Rattle.pth_spelling.specs.Keywords.{begins}
+use Rattle.pth_spelling.specs.Starts.{begins}
 use Rattle.pth_spelling.specs.declared.keyword.Keyword.TheVariants as key
 
 -- a line of a body, but the `end` of it

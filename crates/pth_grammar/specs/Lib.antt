@@ -1,3 +1,7 @@
+pub mod KernelNumbers
+pub mod KernelForms
+pub mod KernelLines
+pub mod KernelRanges
 pub mod Forms
 pub mod Shapes
 pub mod Asked

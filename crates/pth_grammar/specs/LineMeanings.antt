@@ -1,18 +1,20 @@
 -- What the words of a line stand for.
-use Rattle.std.specs.Prelude.{ℕ, List, [], ◌∷◌, Option, Some, None, option_and_then, option_map, is_some, ℤ, if◌then◌else◌}
+use Rattle.std.specs.Prelude.{ℕ, List, [], ◌∷◌, Option, Some, None, option_and_then, option_map, drop, ℤ}
 use Rattle.pth_line.specs.declared.act_line.ActLine.{ActLine}
 use Rattle.pth_line.specs.declared.act_line.ActLine.TheVariants as act
 use Rattle.pth_line.specs.declared.check.Check.{Check}
 use Rattle.pth_line.specs.declared.line.Line.{Line}
 use Rattle.pth_line.specs.declared.line.Line.TheVariants as line
 use Rattle.pth_grammar.specs.CallLines.{call_line}
-use Rattle.pth_spelling.specs.Keywords.{keyword_of, call_word}
+use Rattle.pth_spelling.specs.Starts.{start_of}
 use Rattle.pth_grammar.specs.Reading.{act_values, read1, read2, read4}
 use Rattle.pth_grammar.specs.declared.acts.Values.{Values}
 use Rattle.pth_grammar.specs.declared.acts.Values.TheVariants as values
 use Rattle.pth_spelling.specs.WordMeanings.{natural_of, register_of, operand_of, value_of, shared_of, relation_of}
 use Rattle.pth_spelling.specs.declared.keyword.Keyword.{Keyword}
 use Rattle.pth_spelling.specs.declared.keyword.Keyword.TheVariants as key
+use Rattle.pth_spelling.specs.declared.start.Start.{Start}
+use Rattle.pth_spelling.specs.declared.start.Start.TheVariants as start
 
 -- ---- a body's lines
 
@@ -31,18 +33,15 @@ line_by (Some (key.Call k)) ws = option_map (λ c. line.Call None c) (call_line 
 line_by (Some k) ws = plain_line k ws
 line_by None ws = None
 
--- a register, `=` and a call line
-abbrev pub answered_line : List (List ℕ) → Option Line
-answered_line [] = None
-answered_line (d ∷ []) = None
-answered_line (d ∷ e ∷ []) = None
-answered_line (d ∷ e ∷ k ∷ ws) =
-    option_and_then (λ r. option_map (λ c. line.Call (Some r) c) (option_and_then (λ w. call_line w ws) (call_word k))) (register_of d)
+-- a line of a body by how it begins, and the words after its first; `=` and a call line follow a register
+abbrev pub line_begun : Start → List (List ℕ) → Option Line
+line_begun (start.Word k) ws = line_by k ws
+line_begun (start.Answer r (Some k)) (e ∷ w ∷ ws) = option_map (λ c. line.Call (Some r) c) (call_line k ws)
+line_begun (start.Answer r k) _ = None
 
 -- what a line of a body stands for
 unfoldable pub line_of : List (List ℕ) → Option Line
-line_of [] = None
-line_of (w ∷ ws) = if is_some (register_of w) then answered_line (w ∷ ws) else line_by (keyword_of w) ws
+line_of ws = line_begun (start_of ws) (drop 1 ws)
 
 -- ---- a handler's acts
 
@@ -69,10 +68,14 @@ act_by (Some key.Put) ws = valued key.Put ws
 act_by (Some key.SetKey) ws = valued key.SetKey ws
 act_by _ ws = None
 
+-- by how the line begins, and the words after its first
+abbrev pub act_begun : Start → List (List ℕ) → Option ActLine
+act_begun (start.Word k) ws = act_by k ws
+act_begun (start.Answer r k) ws = None
+
 -- what a line of a handler stands for
 unfoldable pub act_of : List (List ℕ) → Option ActLine
-act_of [] = None
-act_of (w ∷ ws) = act_by (keyword_of w) ws
+act_of ws = act_begun (start_of ws) (drop 1 ws)
 
 -- ---- checks
 

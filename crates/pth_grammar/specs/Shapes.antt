@@ -1,11 +1,13 @@
 -- What a line of words asks for, and the rules that its words break.
-use Rattle.std.specs.Prelude.{ℕ, Bool, true, false, not, List, [], ◌∷◌, length, Option, Some, None, ◌==◌, if◌then◌else◌, codes, option_and_then, option_map, is_some}
+use Rattle.std.specs.Prelude.{ℕ, Bool, true, false, not, List, [], ◌∷◌, length, Option, Some, None, ◌==◌, if◌then◌else◌, codes, option_and_then, option_map, drop}
 use Rattle.std.specs.List.{find}
 use Rattle.std.specs.Str.{bytes_eq}
 use Rattle.pth_grammar.specs.Forms.{forms_of, call_forms}
-use Rattle.pth_spelling.specs.Keywords.{begins, call_word}
-use Rattle.pth_spelling.specs.WordMeanings.{register_of}
-use Rattle.pth_forms.specs.Forms.{wrong}
+use Rattle.pth_spelling.specs.Starts.{start_of}
+use Rattle.pth_spelling.specs.declared.keyword.CallWord.{CallWord}
+use Rattle.pth_spelling.specs.declared.start.Start.{Start}
+use Rattle.pth_spelling.specs.declared.start.Start.TheVariants as start
+use Rattle.pth_spelling.specs.FormRules.{wrong}
 use Rattle.pth_spelling.specs.declared.form.Form.{Form}
 use Rattle.pth_text.specs.declared.rule.Rule.{Rule}
 use Rattle.pth_text.specs.declared.rule.Rule.TheVariants as rule
@@ -26,21 +28,21 @@ abbrev pub shape_by_forms : List (List ℕ) → Option (List Form) → Shape
 shape_by_forms ws None = Unknown
 shape_by_forms ws (Some fs) = Asks fs ws
 
--- the words after a register
-abbrev pub after_register : List (List ℕ) → Shape
-after_register [] = Short
-after_register (e ∷ []) = Short
-after_register (e ∷ k ∷ ws) = if bytes_eq e (codes "=") then shape_by_forms ws (option_map (λ w. call_forms w ws) (call_word k)) else Unequal
+-- the words after a register, and the call that they name, if they name one
+abbrev pub after_register : Option CallWord → List (List ℕ) → Shape
+after_register k [] = Short
+after_register k (e ∷ []) = Short
+after_register k (e ∷ w ∷ ws) = if bytes_eq e (codes "=") then shape_by_forms ws (option_map (λ k. call_forms k ws) k) else Unequal
 
--- a register may begin a line of a body only
-abbrev pub takes_answer : Section → List ℕ → Bool
-takes_answer sec.Body w = is_some (register_of w)
-takes_answer _ w = false
+-- the words after the first, by how the line begins; a register may begin a line of a body only
+abbrev pub shape_begun : Start → Section → List (List ℕ) → Shape
+shape_begun (start.Word k) s ws = shape_by_forms ws (option_and_then (λ k. forms_of s k ws) k)
+shape_begun (start.Answer r k) sec.Body ws = after_register k ws
+shape_begun (start.Answer r k) _ ws = Unknown
 
 -- what a line of a section asks for
 unfoldable pub shape_of : Section → List (List ℕ) → Shape
-shape_of s [] = Unknown
-shape_of s (w ∷ ws) = if takes_answer s w then after_register ws else shape_by_forms ws (option_and_then (λ k. forms_of s k ws) (begins (w ∷ ws)))
+shape_of s ws = shape_begun (start_of ws) s (drop 1 ws)
 
 -- ---- what its words break
 

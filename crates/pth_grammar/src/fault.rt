@@ -3,12 +3,14 @@
 ghost use Rattle.std.specs.Prelude.{◌≡◌};
 ghost use Rattle.std.specs.List.{find};
 ghost use Rattle.pth_grammar.specs.Shapes.{Asks, words_break, word_rules, words_fault};
+ghost use Rattle.pth_spelling.specs.Starts.{start_of};
 ghost use Rattle.pth_spelling.specs.Texts.{texts};
 
 use crate::section::Section;
 use crate::shape::{Shape, shape_of};
-use pth_forms::rules::wrong;
 use pth_spelling::form::Form;
+use pth_spelling::rules::wrong;
+use pth_spelling::start::Start;
 use pth_text::rule::Rule;
 
 /// The first rule that words break whose forms are known.
@@ -29,12 +31,13 @@ fn forms_fault(forms: &[Form], words: &[&[u8]]) -> Option<Rule>
     }
 }
 
-/// The first of the rules on words that the words of a line break.
+/// The first of the rules on words that the words of a line break, by how it begins.
 #[tactic(auto, unfolding(crate::specs::Shapes::words_break, crate::specs::Shapes::words_fault))]
-pub fn words_fault(section: Section, words: &[&[u8]]) -> Option<Rule>
+pub fn words_fault(section: Section, start: Start, words: &[&[u8]]) -> Option<Rule>
+    requires { start ≡ start_of (texts words.now) }
     ensures { result ≡ words_fault section (texts words.now) }
 {
-    match shape_of(section, words) {
+    match shape_of(start, section, words) {
         Shape::Unknown => Some(Rule::Word),
         Shape::Short => Some(Rule::Count),
         Shape::Unequal => Some(Rule::Operand),

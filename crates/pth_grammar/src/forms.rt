@@ -10,9 +10,9 @@ ghost use Rattle.pth_spelling.specs.declared.keyword.EventWord.TheVariants as ev
 ghost use Rattle.pth_spelling.specs.declared.keyword.LibraryWord.TheVariants as libraries;
 ghost use Rattle.pth_spelling.specs.Texts.{texts};
 
+use crate::kernel_forms::kernel_forms;
 use crate::section::Section;
 use pth_base::attr::AttrField;
-use pth_kernel_lines::forms::kernel_forms;
 use pth_spelling::first_word::new_event_word;
 use pth_spelling::form::Form;
 use pth_spelling::keyword::{

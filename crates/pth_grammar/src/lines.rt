@@ -3,10 +3,11 @@
 ghost use Rattle.std.specs.Prelude.{◌≡◌, IfOk, Some, option_map};
 ghost use Rattle.pth_grammar.specs.CallLines.{call_line};
 ghost use Rattle.pth_line.specs.declared.line.Line.TheVariants as bodies;
-ghost use Rattle.pth_spelling.specs.Keywords.{call_word, keyword_of};
-ghost use Rattle.pth_grammar.specs.LineMeanings.{plain_line, line_by, answered_line, line_of, act_of, check_of, numbered};
+ghost use Rattle.pth_grammar.specs.LineMeanings.{plain_line, line_by, line_begun, line_of, act_begun, act_of, check_of, numbered};
+ghost use Rattle.pth_spelling.specs.Starts.{start_of};
 ghost use Rattle.pth_spelling.specs.Texts.{texts};
 ghost use Rattle.pth_spelling.specs.declared.keyword.Keyword.TheVariants as key;
+ghost use Rattle.pth_spelling.specs.declared.start.Start.TheVariants as starts;
 
 use crate::acts::act_by;
 use crate::call_line::call_line;
@@ -15,8 +16,8 @@ use pth_line::act_line::ActLine;
 use pth_line::check::Check;
 use pth_line::line::Line;
 use pth_line::operand::{Operand, Register};
-use pth_spelling::first_word::{call_word, keyword};
-use pth_spelling::keyword::Keyword;
+use pth_spelling::keyword::{CallWord, Keyword};
+use pth_spelling::start::Start;
 use pth_spelling::words::{natural, operand, register, relation, value};
 use std::alloc::Global;
 
@@ -120,14 +121,16 @@ fn line_by(
     }
 }
 
-/// A register, `=` and a call line.
-fn answered_line(alloc: Global, words: &[&[u8]]) -> Result<Option<Line>, OutOfMemory>
-    ensures { IfOk result (λ found. found ≡ answered_line (texts words.now)) }
+/// `=` and a call line after a register.
+fn answered_line(
+    alloc: Global,
+    answer: Register,
+    word: Option<CallWord>,
+    words: &[&[u8]],
+) -> Result<Option<Line>, OutOfMemory>
+    ensures { IfOk result (λ found. found ≡ line_begun (starts.Answer answer word) (texts words.now)) }
 {
-    let [answer, _, word, operands @ ..] = words else {
-        return Ok(None);
-    };
-    let (Some(answer), Some(word)) = (register(answer), call_word(word)) else {
+    let (Some(word), [_, _, operands @ ..]) = (word, words) else {
         return Ok(None);
     };
     let Some(call) = call_line(alloc, word, operands)? else {
@@ -139,31 +142,47 @@ fn answered_line(alloc: Global, words: &[&[u8]]) -> Result<Option<Line>, OutOfMe
     }))
 }
 
-/// A line of a body. The place to which a `goto` goes is not known from the line alone, and 0 stands for it.
-#[tactic(auto, unfolding(crate::specs::LineMeanings::line_of))]
-pub fn line(alloc: Global, words: &[&[u8]]) -> Result<Option<Line>, OutOfMemory>
-    ensures { IfOk result (λ found. found ≡ line_of (texts words.now)) }
+/// A line of a body, by how it begins and the words after its first.
+fn line_begun(alloc: Global, start: Start, words: &[&[u8]]) -> Result<Option<Line>, OutOfMemory>
+    ensures { IfOk result (λ found. found ≡ line_begun start (texts words.now)) }
 {
-    match words {
-        [] => Ok(None),
-        [word, operands @ ..] => {
-            if register(word).is_some() {
-                answered_line(alloc, words)
-            } else {
-                line_by(alloc, keyword(word), operands)
-            }
-        }
+    match start {
+        Start::Word(keyword) => line_by(alloc, keyword, words),
+        Start::Answer(answer, word) => answered_line(alloc, answer, word, words),
     }
 }
 
-/// An act of a handler.
+/// A line of a body, by how it begins. The place to which a `goto` goes is not known from the line alone, and 0 stands for it.
+#[tactic(auto, unfolding(crate::specs::LineMeanings::line_of))]
+pub fn line(alloc: Global, start: Start, words: &[&[u8]]) -> Result<Option<Line>, OutOfMemory>
+    requires { start ≡ start_of (texts words.now) }
+    ensures { IfOk result (λ found. found ≡ line_of (texts words.now)) }
+{
+    match words {
+        [] => line_begun(alloc, start, words),
+        [_, words @ ..] => line_begun(alloc, start, words),
+    }
+}
+
+/// An act of a handler, by how its line begins and the words after its first.
+fn act_begun(start: Start, words: &[&[u8]]) -> Option<ActLine>
+    ensures { result ≡ act_begun start (texts words.now) }
+{
+    match start {
+        Start::Word(keyword) => act_by(keyword, words),
+        Start::Answer(_, _) => None,
+    }
+}
+
+/// An act of a handler, by how its line begins.
 #[tactic(auto, unfolding(crate::specs::LineMeanings::act_of))]
-pub fn act_line(words: &[&[u8]]) -> Option<ActLine>
+pub fn act_line(start: Start, words: &[&[u8]]) -> Option<ActLine>
+    requires { start ≡ start_of (texts words.now) }
     ensures { result ≡ act_of (texts words.now) }
 {
     match words {
-        [] => None,
-        [word, operands @ ..] => act_by(keyword(word), operands),
+        [] => act_begun(start, words),
+        [_, words @ ..] => act_begun(start, words),
     }
 }
 

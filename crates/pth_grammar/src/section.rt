@@ -1,6 +1,6 @@
 //! Where a line stands.
 
-use pth_kernel_lines::part::KernelPart;
+use crate::kernel_part::KernelPart;
 
 /// The part of a script in which a line stands.
 #[derive(Clone, Copy)]

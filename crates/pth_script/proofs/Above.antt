@@ -1,11 +1,11 @@
 -- One line more above.
 use Rattle.std.proofs.Common.{◌≡◌, ℕ, List, [], ◌∷◌, Option, Some, None, refl, sym, ◌∙◌}
-use Rattle.pth_spelling.specs.Keywords.{begins}
+use Rattle.pth_spelling.specs.Starts.{begins}
 use Rattle.pth_grammar.specs.LineMeanings.{numbered}
 use Rattle.pth_spelling.specs.declared.keyword.Keyword.{Keyword}
 use Rattle.pth_spelling.specs.declared.keyword.Keyword.TheVariants as key
 use Rattle.pth_kernel.specs.declared.trace.Stamp.{Stamp}
-use Rattle.pth_kernel_lines.specs.KernelLines.{open_line, stamp_line}
+use Rattle.pth_grammar.specs.KernelLines.{open_line, stamp_line}
 use Rattle.pth_script.specs.TextRows.{above}
 use Rattle.pth_script.specs.Seen.{Seen, seen_of, seen_past, script_past, opens_past, stamps_past, section_of, since_mark, numbers, count_of, next_open_of, open_descriptors_of, stamps_of}
 

@@ -3,17 +3,17 @@ use Rattle.std.proofs.Common.{◌≡◌, ℕ, nat_lt, Bool, true, false, cond, L
 use Rattle.std.specs.Prelude.{is_some, option_and_then, pos, negsuc}
 use Rattle.pth_base.specs.Descriptors.{descriptor_limit}
 use Rattle.pth_text.specs.Number.{numeral_value}
-use Rattle.pth_spelling.specs.Keywords.{begins}
+use Rattle.pth_spelling.specs.Starts.{begins, start_of}
 use Rattle.pth_spelling.specs.WordMeanings.{natural_of, not_negative, below, descriptor_of}
 use Rattle.pth_spelling.specs.declared.keyword.Keyword.{Keyword}
 use Rattle.pth_spelling.specs.declared.keyword.Keyword.TheVariants as key
 use Rattle.pth_grammar.specs.LineMeanings.{numbered}
 use Rattle.pth_grammar.specs.declared.section.Section.TheVariants as sec
 use Rattle.pth_kernel.specs.declared.trace.Stamp.{Stamp}
-use Rattle.pth_kernel_lines.specs.KernelForms.{kernel_forms}
-use Rattle.pth_kernel_lines.specs.KernelLines.{opening_by, open_line, stamp_by, stamp_line}
-use Rattle.pth_kernel_lines.specs.declared.part.KernelPart.{KernelPart}
-use Rattle.pth_kernel_lines.specs.declared.part.KernelPart.TheVariants as part
+use Rattle.pth_grammar.specs.KernelForms.{kernel_forms}
+use Rattle.pth_grammar.specs.KernelLines.{opening_by, open_line, stamp_by, stamp_line}
+use Rattle.pth_grammar.specs.declared.kernel_part.KernelPart.{KernelPart}
+use Rattle.pth_grammar.specs.declared.kernel_part.KernelPart.TheVariants as part
 use Rattle.pth_script.specs.Drafts.{in_entries, below_part}
 
 -- ---- lines that stand for something
@@ -57,7 +57,7 @@ number_by (Some key.Open) w (v ∷ u ∷ ws) f e = absurd (cc)
 number_by _ w ws f e = absurd (cc)
 
 pub open_number : (ws : List (List ℕ)) (f : ℕ) → open_line ws ≡ Some f → numbered ws ≡ Some (pos f)
-unfolding open_line begins
+unfolding open_line begins start_of
 open_number [] f e = absurd (cc)
 open_number (w ∷ ws) f e = number_by (begins (w ∷ ws)) w ws f e
 

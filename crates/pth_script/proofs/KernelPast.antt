@@ -1,11 +1,11 @@
 -- A line that is none of a kernel changes nothing of it.
 use Rattle.std.proofs.Common.{◌≡◌, ◌+◌, ℕ, false, cond, List, ◌∷◌, ◌++◌, drop, Option, Some, None, refl, ap, sym, ◌∙◌}
 use Rattle.std.specs.Prelude.{option_map}
-use Rattle.pth_spelling.specs.Keywords.{begins}
+use Rattle.pth_spelling.specs.Starts.{begins}
 use Rattle.pth_spelling.specs.declared.keyword.Keyword.{Keyword}
 use Rattle.pth_spelling.specs.declared.keyword.Keyword.TheVariants as key
 use Rattle.pth_grammar.specs.LineMeanings.{numbered}
-use Rattle.pth_kernel_lines.specs.KernelLines.{clock_line, opening_by, open_line, stamp_by, stamp_line}
+use Rattle.pth_grammar.specs.KernelLines.{clock_line, opening_by, open_line, stamp_by, stamp_line}
 use Rattle.pth_script.specs.Drafts.{DraftParts, ComesTo}
 use Rattle.pth_script.specs.KernelDrafts.{clock_with}
 use Rattle.pth_script.specs.Labels.{somes}

@@ -1,13 +1,17 @@
 -- What the keyword of a line that was read may be.
-use Rattle.std.proofs.Common.{◌≡◌, ℕ, suc, ℤ, Bool, true, false, cond, List, [], ◌∷◌, ◌++◌, Option, Some, None, refl, ap, sym, subst, ◌∙◌, append-nil}
-use Rattle.std.specs.Prelude.{is_some, option_map, option_and_then}
+use Rattle.std.proofs.Common.{◌≡◌, ℕ, suc, ℤ, false, List, [], ◌∷◌, ◌++◌, Option, Some, None, refl, ap, sym, subst, ◌∙◌, append-nil, drop}
+use Rattle.std.specs.Prelude.{option_map, option_and_then}
 use Rattle.std.proofs.lemmas.Option.{same_Some}
 use Rattle.pth_grammar.specs.CallLines.{call_line}
-use Rattle.pth_spelling.specs.Keywords.{begins, keyword_of}
-use Rattle.pth_grammar.specs.LineMeanings.{numbered, line_of, line_by, plain_line, answered_line, act_of, act_by}
+use Rattle.pth_spelling.specs.Starts.{begins, keyword_in, start_of}
+use Rattle.pth_grammar.specs.LineMeanings.{numbered, line_begun, line_of, line_by, plain_line, act_begun, act_of, act_by}
 use Rattle.pth_grammar.specs.Reading.{read1, read2, read3}
-use Rattle.pth_spelling.specs.WordMeanings.{register_of, natural_of, operand_of, relation_of}
+use Rattle.pth_spelling.specs.WordMeanings.{natural_of, operand_of, relation_of}
+use Rattle.pth_line.specs.declared.operand.Register.{Register}
+use Rattle.pth_spelling.specs.declared.keyword.CallWord.{CallWord}
 use Rattle.pth_spelling.specs.declared.keyword.Keyword.{Keyword}
+use Rattle.pth_spelling.specs.declared.start.Start.{Start}
+use Rattle.pth_spelling.specs.declared.start.Start.TheVariants as start
 use Rattle.pth_spelling.specs.declared.keyword.Keyword.TheVariants as key
 use Rattle.pth_line.specs.declared.act_line.ActLine.{ActLine}
 use Rattle.pth_line.specs.declared.line.Line.{Line}
@@ -43,14 +47,13 @@ act_key (Some key.Put) ws a e = record { inner = inner _ refl refl refl refl ref
 act_key (Some key.SetKey) ws a e = record { inner = inner _ refl refl refl refl refl refl refl; past = λ n s. refl }
 act_key _ ws a e = absurd (cc)
 
-act_begins_by : (b : Bool) (k : Option Keyword) (ws : List (List ℕ)) (a : ActLine) → act_by k ws ≡ Some a → IsAct (cond b None k)
-act_begins_by true k ws a e = record { inner = inner _ refl refl refl refl refl refl refl; past = λ n s. refl }
-act_begins_by false k ws a e = act_key k ws a e
+act_begun_key : (st : Start) (ws : List (List ℕ)) (a : ActLine) → act_begun st ws ≡ Some a → IsAct (keyword_in st)
+act_begun_key (start.Word k) ws a e = act_key k ws a e
+act_begun_key (start.Answer r k) ws a e = absurd (cc)
 
 pub act_begins : (ws : List (List ℕ)) (a : ActLine) → act_of ws ≡ Some a → IsAct (begins ws)
 unfolding act_of begins
-act_begins [] a e = absurd (cc)
-act_begins (w ∷ ws) a e = act_begins_by (is_some (register_of w)) (keyword_of w) ws a e
+act_begins ws a e = act_begun_key (start_of ws) (drop 1 ws) a e
 
 -- ---- lines of bodies
 
@@ -138,17 +141,17 @@ worded_key (Some key.Open) w ws l e = plain_key key.Open w ws l e
 worded_key (Some key.At) w ws l e = plain_key key.At w ws l e
 worded_key None w ws l e = absurd (cc)
 
-answered_key : (n : Option ℤ) (ws : List (List ℕ)) (l : Line) → answered_line ws ≡ Some l → IsLine None n l
-answered_key n [] l e = absurd (cc)
-answered_key n (d ∷ []) l e = absurd (cc)
-answered_key n (d ∷ q ∷ []) l e = absurd (cc)
-answered_key n (d ∷ q ∷ k ∷ ws) l e = no_label _ _ l (inner _ refl refl refl refl refl refl refl) (λ s. refl) (by_then NoLabel _ (register_of d) l (λ r. by1 NoLabel (λ c. line.Call (Some r) c) _ l (λ c. (refl, refl))) e)
+answered_key : (r : Register) (k : Option CallWord) (n : Option ℤ) (ws : List (List ℕ)) (l : Line) → line_begun (start.Answer r k) ws ≡ Some l → IsLine None n l
+answered_key r (Some k) n (e ∷ w ∷ ws) l h = no_label _ _ l (inner _ refl refl refl refl refl refl refl) (λ s. refl) (by1 NoLabel (λ c. line.Call (Some r) c) (call_line k ws) l (λ c. (refl, refl)) h)
+answered_key r (Some k) n [] l h = absurd (cc)
+answered_key r (Some k) n (e ∷ []) l h = absurd (cc)
+answered_key r None n ws l h = absurd (cc)
 
-key_by : (b : Bool) (k : Option Keyword) (w : List ℕ) (ws : List (List ℕ)) (l : Line) → cond b (answered_line (w ∷ ws)) (line_by k ws) ≡ Some l → IsLine (cond b None k) (numbered (w ∷ ws)) l
-key_by true k w ws l e = answered_key (numbered (w ∷ ws)) (w ∷ ws) l e
-key_by false k w ws l e = worded_key k w ws l e
+line_begun_key : (st : Start) (w : List ℕ) (ws : List (List ℕ)) (l : Line) → line_begun st ws ≡ Some l → IsLine (keyword_in st) (numbered (w ∷ ws)) l
+line_begun_key (start.Word k) w ws l e = worded_key k w ws l e
+line_begun_key (start.Answer r k) w ws l e = answered_key r k (numbered (w ∷ ws)) ws l e
 
 pub line_begins : (ws : List (List ℕ)) (l : Line) → line_of ws ≡ Some l → IsLine (begins ws) (numbered ws) l
-unfolding line_of begins
+unfolding line_of begins start_of
 line_begins [] l e = absurd (cc)
-line_begins (w ∷ ws) l e = key_by (is_some (register_of w)) (keyword_of w) w ws l e
+line_begins (w ∷ ws) l e = line_begun_key (start_of (w ∷ ws)) w ws l e

@@ -1,6 +1,6 @@
 -- What one line more makes of the sections that are left.
 use Rattle.std.proofs.Common.{◌≡◌, ℕ, Bool, true, false, cond, List, [], ◌∷◌, ◌++◌, Option, refl, ap, sym, ◌∙◌, append_assoc, append-nil}
-use Rattle.pth_spelling.specs.Keywords.{begins}
+use Rattle.pth_spelling.specs.Starts.{begins}
 use Rattle.pth_grammar.specs.LineMeanings.{check_of}
 use Rattle.pth_spelling.specs.declared.keyword.Keyword.{Keyword}
 use Rattle.pth_script.specs.Meaning.{until_end, sections_read, checks_of}

@@ -1,10 +1,10 @@
 -- The lines that are said, and what a line of words breaks first.
 use Rattle.std.proofs.Common.{◌≡◌, ℕ, Bool, true, false, cond, not, List, ◌∷◌, Option, Some, None, refl, ap, sym, ◌∙◌}
 use Rattle.pth_text.specs.LineWords.{words_of}
-use Rattle.pth_spelling.specs.Keywords.{begins}
+use Rattle.pth_spelling.specs.Starts.{begins}
 use Rattle.pth_grammar.specs.LineMeanings.{numbered}
 use Rattle.pth_grammar.specs.Shapes.{Shape, Unknown, Short, Unequal, Asks, shape_of, words_break, words_fault}
-use Rattle.pth_kernel_lines.specs.KernelLines.{stamp_line}
+use Rattle.pth_grammar.specs.KernelLines.{stamp_line}
 use Rattle.pth_text.specs.declared.rule.Rule.{Rule}
 use Rattle.pth_text.specs.declared.rule.Rule.TheVariants as rule
 use Rattle.pth_script.specs.TextRows.{TextRow, is_comment}

@@ -3,14 +3,14 @@ use Rattle.std.proofs.Common.{◌≡◌, ◌<◌, ◌+◌, ℕ, ℤ, true, false
 use Rattle.std.specs.Prelude.{nat_le, is_some, IfSome}
 use Rattle.std.proofs.lemmas.Bool.Decides.{nat_tests}
 use Rattle.std.proofs.lemmas.Bool.{true≢false}
-use Rattle.pth_spelling.specs.Keywords.{begins}
+use Rattle.pth_spelling.specs.Starts.{begins}
 use Rattle.pth_grammar.specs.LineMeanings.{numbered, line_of, act_of, check_of}
 use Rattle.pth_grammar.specs.Shapes.{words_fault}
 use Rattle.pth_spelling.specs.declared.keyword.Keyword.{Keyword}
 use Rattle.pth_spelling.specs.declared.keyword.Keyword.TheVariants as key
 use Rattle.pth_grammar.specs.declared.section.Section.{Section}
 use Rattle.pth_grammar.specs.declared.section.Section.TheVariants as sec
-use Rattle.pth_kernel_lines.specs.declared.part.KernelPart.TheVariants as part
+use Rattle.pth_grammar.specs.declared.kernel_part.KernelPart.TheVariants as part
 use Rattle.pth_grammar.proofs.Readable.{act_readable, body_readable, check_readable, outside_keyed}
 use Rattle.pth_grammar.specs.Forms.{forms_of, may_open, opening_forms}
 use Rattle.pth_line.specs.declared.act_line.ActLine.{ActLine}

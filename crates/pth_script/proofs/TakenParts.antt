@@ -2,7 +2,7 @@
 use Rattle.std.proofs.Common.{◌≡◌, ◌≤◌, ◌+◌, ℕ, Bool, true, false, ◌||◌, List, [], drop, Option, Some, None, refl, ap, sym, subst, ◌∙◌, arith}
 use Rattle.std.specs.Prelude.{is_some, pos, reverse}
 use Rattle.std.proofs.lemmas.Bool.Decides.{nat_tests}
-use Rattle.pth_spelling.specs.Keywords.{begins}
+use Rattle.pth_spelling.specs.Starts.{begins}
 use Rattle.pth_spelling.specs.declared.keyword.Keyword.{Keyword}
 use Rattle.pth_spelling.specs.declared.keyword.Keyword.TheVariants as key
 use Rattle.pth_grammar.specs.Shapes.{words_fault}
@@ -12,10 +12,10 @@ use Rattle.pth_grammar.proofs.Readable.{IsKeyed, outside_keyed, clock_readable, 
 use Rattle.pth_kernel.specs.declared.rules.Rules.{Rules}
 use Rattle.pth_kernel.specs.declared.trace.Stamp.{Stamp}
 use Rattle.pth_kernel.specs.Trace.{faults}
-use Rattle.pth_kernel_lines.proofs.Ranges.{clock_within, open_within, stamp_within}
-use Rattle.pth_kernel_lines.specs.KernelLines.{clock_line, open_line, stamp_line}
-use Rattle.pth_kernel_lines.specs.declared.part.KernelPart.{KernelPart}
-use Rattle.pth_kernel_lines.specs.declared.part.KernelPart.TheVariants as part
+use Rattle.pth_grammar.proofs.KernelRanges.{clock_within, open_within, stamp_within}
+use Rattle.pth_grammar.specs.KernelLines.{clock_line, open_line, stamp_line}
+use Rattle.pth_grammar.specs.declared.kernel_part.KernelPart.{KernelPart}
+use Rattle.pth_grammar.specs.declared.kernel_part.KernelPart.TheVariants as part
 use Rattle.pth_script.specs.Drafts.{DraftParts, seen_of_draft, in_handler, in_body, in_entries, in_kernel, below_part, IsDraftInOrder, IsFine, Takes}
 use Rattle.pth_script.specs.KernelDrafts.{IsKernelInOrder}
 use Rattle.pth_script.specs.Seen.{Seen, passes_limit, misnumbered, is_early, misuses_fd}

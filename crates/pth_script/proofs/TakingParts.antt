@@ -2,15 +2,15 @@
 use Rattle.std.proofs.Common.{◌≡◌, ◌≤◌, ◌+◌, ◌^◌, ℕ, true, false, cond, List, [], ◌∷◌, ◌++◌, Option, Some, None, refl, ap, sym, ◌∙◌, append_assoc, arith}
 use Rattle.std.specs.Prelude.{option_map, reverse}
 use Rattle.std.proofs.lemmas.List.{reverse-append}
-use Rattle.pth_spelling.specs.Keywords.{begins}
+use Rattle.pth_spelling.specs.Starts.{begins}
 use Rattle.pth_spelling.specs.declared.keyword.Keyword.TheVariants as key
 use Rattle.pth_grammar.specs.LineMeanings.{numbered}
 use Rattle.pth_grammar.specs.declared.section.Section.{Section}
 use Rattle.pth_kernel.specs.declared.rules.Rules.{Rules}
 use Rattle.pth_kernel.specs.declared.trace.Stamp.{Stamp}
 use Rattle.pth_kernel.specs.Trace.{most_clock}
-use Rattle.pth_kernel_lines.specs.KernelLines.{clock_line, open_line, stamp_line}
-use Rattle.pth_kernel_lines.specs.declared.part.KernelPart.TheVariants as part
+use Rattle.pth_grammar.specs.KernelLines.{clock_line, open_line, stamp_line}
+use Rattle.pth_grammar.specs.declared.kernel_part.KernelPart.TheVariants as part
 use Rattle.pth_grammar.specs.declared.section.Section.TheVariants as sec
 use Rattle.pth_line.specs.declared.act_line.ActLine.{ActLine}
 use Rattle.pth_line.specs.declared.check.Check.{Check}

@@ -4,7 +4,7 @@ use Rattle.std.specs.Prelude.{reverse, map, drop}
 use Rattle.std.proofs.lemmas.Bool.{cases_Bool, cases_order, not-false}
 use Rattle.std.proofs.lemmas.List.{length-reverse}
 use Rattle.pth_text.specs.LineWords.{words_of}
-use Rattle.pth_spelling.specs.Keywords.{begins}
+use Rattle.pth_spelling.specs.Starts.{begins}
 use Rattle.pth_grammar.specs.LineMeanings.{act_of, check_of, line_of}
 use Rattle.pth_spelling.specs.declared.keyword.Keyword.{Keyword}
 use Rattle.pth_spelling.specs.declared.keyword.Keyword.TheVariants as key
@@ -12,9 +12,9 @@ use Rattle.pth_text.specs.declared.rule.Rule.TheVariants as rule
 use Rattle.pth_grammar.specs.declared.section.Section.{Section}
 use Rattle.pth_grammar.specs.declared.section.Section.TheVariants as sec
 use Rattle.pth_kernel.specs.Kernel.{Kernel}
-use Rattle.pth_kernel_lines.specs.KernelLines.{clock_line, open_line, stamp_line}
-use Rattle.pth_kernel_lines.specs.declared.part.KernelPart.{KernelPart}
-use Rattle.pth_kernel_lines.specs.declared.part.KernelPart.TheVariants as part
+use Rattle.pth_grammar.specs.KernelLines.{clock_line, open_line, stamp_line}
+use Rattle.pth_grammar.specs.declared.kernel_part.KernelPart.{KernelPart}
+use Rattle.pth_grammar.specs.declared.kernel_part.KernelPart.TheVariants as part
 use Rattle.pth_line.specs.Script.{Sections}
 use Rattle.pth_line.specs.declared.line.Line.{Line}
 use Rattle.pth_line.specs.declared.line.Line.TheVariants as line

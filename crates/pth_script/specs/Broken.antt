@@ -1,10 +1,10 @@
 -- The rules of a text: one predicate for each, on the whole text and the number of a line.
 use Rattle.std.specs.Prelude.{◌≡◌, ℕ, ◌+◌, ◌-◌, ◌≤◌, ◌<◌, Bool, true, false, ◌||◌, ◌&&◌, not, List, ◌∷◌, length, Option, Some, None, is_none, ◌==◌, nat_lt, if◌then◌else◌, slice_get, take, reverse}
 use Rattle.pth_text.specs.LineWords.{words_of}
-use Rattle.pth_spelling.specs.Keywords.{begins}
+use Rattle.pth_spelling.specs.Starts.{begins}
 use Rattle.pth_grammar.specs.LineMeanings.{numbered}
 use Rattle.pth_grammar.specs.Shapes.{shape_of, words_break}
-use Rattle.pth_kernel_lines.specs.KernelLines.{stamp_line}
+use Rattle.pth_grammar.specs.KernelLines.{stamp_line}
 use Rattle.pth_text.specs.declared.rule.Rule.TheVariants as rule
 use Rattle.pth_grammar.specs.declared.section.Section.{Section}
 use Rattle.pth_grammar.specs.declared.section.Section.TheVariants as sec

@@ -10,7 +10,7 @@ use Rattle.pth_line.specs.declared.line.Line.{Line}
 use Rattle.pth_script.specs.Labels.{somes, labels_in, gotos_in, with_places}
 use Rattle.pth_script.specs.Limits.{handler_limit, body_limit, act_limit}
 use Rattle.pth_script.specs.Meaning.{Parts, until_end, sections_read, checks_of, opens_said, trace_said}
-use Rattle.pth_kernel_lines.specs.declared.part.KernelPart.TheVariants as part
+use Rattle.pth_grammar.specs.declared.kernel_part.KernelPart.TheVariants as part
 use Rattle.pth_script.specs.Seen.{Seen, seen_past, is_handler, is_thread}
 use Rattle.pth_script.specs.Broken.{said_breaks}
 use Rattle.pth_script.specs.RuleOrder.{first_broken}

@@ -3,7 +3,7 @@
 -- Each list has an option for each line, so a line that a definition drops shows in a proof.
 use Rattle.std.specs.Prelude.{◌≡◌, ℕ, ◌+◌, ◌^◌, Bool, List, [], ◌∷◌, Option, Some, option_map, option_and_then, map, drop, if◌then◌else◌}
 use Rattle.pth_text.specs.LineWords.{words_of}
-use Rattle.pth_spelling.specs.Keywords.{begins}
+use Rattle.pth_spelling.specs.Starts.{begins}
 use Rattle.pth_grammar.specs.LineMeanings.{line_of, act_of, check_of}
 use Rattle.pth_spelling.specs.declared.keyword.Keyword.{Keyword}
 use Rattle.pth_line.specs.Script.{Sections}
@@ -12,7 +12,7 @@ use Rattle.pth_line.specs.declared.check.Check.{Check}
 use Rattle.pth_line.specs.declared.line.Line.{Line}
 use Rattle.pth_kernel.specs.declared.trace.Stamp.{Stamp}
 use Rattle.pth_kernel.specs.Kernel.{Kernel, started}
-use Rattle.pth_kernel_lines.specs.KernelLines.{clock_line, open_line, stamp_line}
+use Rattle.pth_grammar.specs.KernelLines.{clock_line, open_line, stamp_line}
 use Rattle.pth_script.specs.Labels.{somes, with_places}
 use Rattle.pth_script.specs.TextRows.{TextRow, text_rows, is_comment, heading_length, range_of}
 use Rattle.pth_script.specs.Seen.{is_handler, is_check, is_thread, is_end, is_clock, is_opening, is_stamp}

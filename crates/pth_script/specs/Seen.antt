@@ -2,7 +2,7 @@
 use Rattle.std.specs.Prelude.{ℕ, suc, ◌+◌, ◌^◌, ◌==◌, Bool, true, false, not, List, [], ◌∷◌, length, ◌++◌, Option, Some, None, nat_le, ℤ, pos, int_lt, unwrap_or, filter_map, if◌then◌else◌}
 use Rattle.std.specs.List.{list_all}
 use Rattle.std.specs.Ordering.{int_eq}
-use Rattle.pth_spelling.specs.Keywords.{begins}
+use Rattle.pth_spelling.specs.Starts.{begins}
 use Rattle.pth_grammar.specs.LineMeanings.{numbered}
 use Rattle.pth_spelling.specs.declared.keyword.Keyword.{Keyword}
 use Rattle.pth_spelling.specs.declared.keyword.Keyword.TheVariants as key
@@ -10,8 +10,8 @@ use Rattle.pth_grammar.specs.declared.section.Section.{Section}
 use Rattle.pth_grammar.specs.declared.section.Section.TheVariants as sec
 use Rattle.pth_kernel.specs.declared.trace.Stamp.{Stamp}
 use Rattle.pth_kernel.specs.Trace.{is_before_last, breaks_fd, is_full_of_stamps}
-use Rattle.pth_kernel_lines.specs.declared.part.KernelPart.TheVariants as part
-use Rattle.pth_kernel_lines.specs.KernelLines.{open_line, stamp_line}
+use Rattle.pth_grammar.specs.declared.kernel_part.KernelPart.TheVariants as part
+use Rattle.pth_grammar.specs.KernelLines.{open_line, stamp_line}
 use Rattle.pth_script.specs.Labels.{has}
 use Rattle.pth_script.specs.Limits.{handler_limit, check_limit, body_limit, act_limit, body_line_limit}
 

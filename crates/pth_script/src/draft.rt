@@ -2,11 +2,11 @@
 
 ghost use Rattle.std.specs.Prelude.{◌≡◌, ℕ, List, [], IfOk, OnOk, unwrap_or, Some, None, true, false, if◌then◌else◌};
 ghost use Rattle.pth_spelling.specs.Texts.{texts};
-ghost use Rattle.pth_spelling.specs.Keywords.{begins};
+ghost use Rattle.pth_spelling.specs.Starts.{begins, start_of};
 ghost use Rattle.pth_spelling.specs.declared.keyword.Keyword.TheVariants as key;
 ghost use Rattle.pth_grammar.specs.declared.section.Section.TheVariants as section;
 ghost use Rattle.pth_kernel.specs.Kernel.{kernel_of, started};
-ghost use Rattle.pth_kernel_lines.specs.KernelLines.{stamp_line};
+ghost use Rattle.pth_grammar.specs.KernelLines.{stamp_line};
 ghost use Rattle.pth_script.specs.Broken.{said_breaks};
 ghost use Rattle.pth_script.specs.Drafts.{draft_parts, seen_of_draft, in_handler, in_body, in_kernel, handler_closed, IsClosable, IsClosed, IsFine, IsDraftInOrder, ComesTo, Takes};
 ghost use Rattle.pth_script.specs.Meaning.{parts_of};
@@ -19,19 +19,19 @@ use crate::kernel_draft::KernelDraft;
 use crate::limits::{MOST_ACTS, MOST_BODIES, MOST_CHECKS, MOST_HANDLERS, MOST_LINES};
 use pth_base::memory::OutOfMemory;
 use pth_grammar::fault::words_fault;
+use pth_grammar::kernel_lines::{clock_line, open_line};
+use pth_grammar::kernel_part::KernelPart;
 use pth_grammar::lines::{act_line, check_line, line, numbered};
 use pth_grammar::section::Section;
 use pth_kernel::kernel::Kernel;
 use pth_kernel::trace::Stamp;
-use pth_kernel_lines::lines::{clock_line, open_line};
-use pth_kernel_lines::part::KernelPart;
 use pth_line::act_line::ActLine;
 use pth_line::block::Block;
 use pth_line::check::Check;
 use pth_line::line::Line;
 use pth_line::script::Script;
-use pth_spelling::first_word::begins;
 use pth_spelling::keyword::Keyword;
+use pth_spelling::start::Start;
 use pth_text::rule::{Breach, Rule};
 use std::alloc::Global;
 use std::mem;
@@ -189,20 +189,27 @@ impl Draft {
         }
     }
 
-    /// The first that a line of words breaks. The stamp is the one that the line stands for.
-    pub fn fault(&self, words: &[&[u8]], stamp: &Option<Stamp>, ended: bool) -> Option<Breach>
+    /// The first that a line of words breaks, by how it begins. The stamp is the one that the line stands for.
+    pub fn fault(
+        &self,
+        start: Start,
+        words: &[&[u8]],
+        stamp: &Option<Stamp>,
+        ended: bool,
+    ) -> Option<Breach>
+        requires start { start ≡ start_of (texts words.now) }
         requires stamp { stamp.now ≡ stamp_line (texts words.now) }
         requires kept { IsDraftInOrder (draft_parts self.now) }
         ensures { result ≡ first_broken (said_breaks ended (seen_of_draft (draft_parts self.now)) (texts words.now)) }
     {
-        let keyword = begins(words);
+        let keyword = start.keyword();
         if self.passes_limit(keyword) {
             return Some(Breach::Limit);
         }
         if !ended {
             return Some(Breach::Of(Rule::Cut));
         }
-        if let Some(rule) = words_fault(self.section, words) {
+        if let Some(rule) = words_fault(self.section, start, words) {
             return Some(Breach::Of(rule));
         }
         if let Some(rule) = self.place_fault(keyword, numbered(words)) {
@@ -225,16 +232,17 @@ impl Draft {
     }
 
     /// Takes a line of a handler.
-    fn take_act(&mut self, words: &[&[u8]]) -> Result<(), OutOfMemory>
+    fn take_act(&mut self, start: Start, words: &[&[u8]]) -> Result<(), OutOfMemory>
+        requires start { start ≡ start_of (texts words.now) }
         requires section { self.old.section ≡ section.Handler }
         requires fine { IsFine (draft_parts self.old) (texts words.now) }
         requires kept { IsDraftInOrder (draft_parts self.old) }
         ensures { OnOk result (Takes (draft_parts self.old) (draft_parts self.new) (texts words.now)) }
     {
-        if is_end(begins(words)) {
+        if is_end(start.keyword()) {
             return self.close_handler();
         }
-        if let Some(act) = act_line(words) {
+        if let Some(act) = act_line(start, words) {
             self.acts.push(act)?;
         }
         Ok(())
@@ -251,16 +259,17 @@ impl Draft {
     }
 
     /// Takes a line of a body.
-    fn take_line(&mut self, words: &[&[u8]]) -> Result<(), OutOfMemory>
+    fn take_line(&mut self, start: Start, words: &[&[u8]]) -> Result<(), OutOfMemory>
+        requires start { start ≡ start_of (texts words.now) }
         requires section { self.old.section ≡ section.Body }
         requires fine { IsFine (draft_parts self.old) (texts words.now) }
         requires kept { IsDraftInOrder (draft_parts self.old) }
         ensures { OnOk result (Takes (draft_parts self.old) (draft_parts self.new) (texts words.now)) }
     {
-        if is_end(begins(words)) {
+        if is_end(start.keyword()) {
             return self.close_body();
         }
-        if let Some(line) = line(self.alloc, words)? {
+        if let Some(line) = line(self.alloc, start, words)? {
             self.body.push(line)?;
         }
         Ok(())
@@ -284,7 +293,8 @@ impl Draft {
     }
 
     /// Takes a line outside of handlers, bodies and the kernel.
-    fn take_opening(&mut self, words: &[&[u8]]) -> Result<(), OutOfMemory>
+    fn take_opening(&mut self, keyword: Option<Keyword>, words: &[&[u8]]) -> Result<(), OutOfMemory>
+        requires keyword { keyword ≡ begins (texts words.now) }
         requires handler { in_handler self.old.section ≡ false }
         requires body { in_body self.old.section ≡ false }
         requires kernel { in_kernel self.old.section ≡ false }
@@ -292,7 +302,6 @@ impl Draft {
         requires kept { IsDraftInOrder (draft_parts self.old) }
         ensures { OnOk result (Takes (draft_parts self.old) (draft_parts self.new) (texts words.now)) }
     {
-        let keyword = begins(words);
         if is_check(keyword) {
             return self.take_check(words);
         }
@@ -307,7 +316,13 @@ impl Draft {
     }
 
     /// Takes a line of the kernel.
-    fn take_part(&mut self, words: &[&[u8]], stamp: Option<Stamp>) -> Result<(), OutOfMemory>
+    fn take_part(
+        &mut self,
+        keyword: Option<Keyword>,
+        words: &[&[u8]],
+        stamp: Option<Stamp>,
+    ) -> Result<(), OutOfMemory>
+        requires keyword { keyword ≡ begins (texts words.now) }
         requires section { in_kernel self.old.section ≡ true }
         requires stamp { stamp ≡ stamp_line (texts words.now) }
         requires fine { IsFine (draft_parts self.old) (texts words.now) }
@@ -320,11 +335,11 @@ impl Draft {
             return Ok(());
         }
         self.section = Section::Kernel(KernelPart::Opens);
-        if let Some(f) = open_line(words) {
+        if let Some(f) = open_line(keyword, words) {
             self.kernel.open(f);
             return Ok(());
         }
-        self.kernel.clock = clock_line(words);
+        self.kernel.clock = clock_line(keyword, words);
         Ok(())
     }
 
@@ -338,18 +353,24 @@ impl Draft {
         Ok((Script::new(self.handlers, self.checks, self.bodies), kernel))
     }
 
-    /// Takes a line of words that breaks no rule. The stamp is the one that the line stands for.
-    pub fn take(&mut self, words: &[&[u8]], stamp: Option<Stamp>) -> Result<(), OutOfMemory>
+    /// Takes a line of words that breaks no rule, by how it begins. The stamp is the one that the line stands for.
+    pub fn take(
+        &mut self,
+        start: Start,
+        words: &[&[u8]],
+        stamp: Option<Stamp>,
+    ) -> Result<(), OutOfMemory>
+        requires start { start ≡ start_of (texts words.now) }
         requires stamp { stamp ≡ stamp_line (texts words.now) }
         requires fine { IsFine (draft_parts self.old) (texts words.now) }
         requires kept { IsDraftInOrder (draft_parts self.old) }
         ensures { OnOk result (Takes (draft_parts self.old) (draft_parts self.new) (texts words.now)) }
     {
         match self.section {
-            Section::Handler => self.take_act(words),
-            Section::Body => self.take_line(words),
-            Section::Kernel(_) => self.take_part(words, stamp),
-            _ => self.take_opening(words),
+            Section::Handler => self.take_act(start, words),
+            Section::Body => self.take_line(start, words),
+            Section::Kernel(_) => self.take_part(start.keyword(), words, stamp),
+            _ => self.take_opening(start.keyword(), words),
         }
     }
 }

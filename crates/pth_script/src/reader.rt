@@ -15,8 +15,9 @@ use crate::heading::{Heading, VERSION_1_RANGE, range_said};
 use crate::limits::LINE_LIMIT;
 use crate::rows::is_comment;
 use pth_base::memory::OutOfMemory;
+use pth_grammar::kernel_lines::stamp_line;
 use pth_grammar::section::Section;
-use pth_kernel_lines::lines::stamp_line;
+use pth_spelling::start::Start;
 use pth_text::rule::{Breach, Rule};
 use pth_text::words::words;
 use std::alloc::Global;
@@ -108,11 +109,12 @@ impl Reader {
     {
         let words = words(self.alloc, bytes)?;
         let words = words.as_slice();
-        let stamp = stamp_line(self.alloc, words)?;
-        if let Some(breach) = self.draft.fault(words, &stamp, ended) {
+        let start = Start::of(words);
+        let stamp = stamp_line(self.alloc, start.keyword(), words)?;
+        if let Some(breach) = self.draft.fault(start, words, &stamp, ended) {
             return Err(Fault::Broken(breach));
         }
-        self.draft.take(words, stamp)?;
+        self.draft.take(start, words, stamp)?;
         Ok(())
     }
 

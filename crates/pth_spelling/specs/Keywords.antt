@@ -1,8 +1,7 @@
 -- The words that begin lines.
-use Rattle.std.specs.Prelude.{ℕ, List, [], ◌∷◌, Option, Some, None, if◌then◌else◌, codes, map, option_and_then, option_map, is_some}
+use Rattle.std.specs.Prelude.{ℕ, List, [], ◌∷◌, Option, Some, None, codes, map, option_and_then, option_map}
 use Rattle.pth_spelling.specs.Named.{named_in}
 use Rattle.pth_spelling.specs.Syntax.{syntax_of}
-use Rattle.pth_spelling.specs.WordMeanings.{register_of}
 use Rattle.pth_spelling.specs.declared.keyword.LibraryWord.TheVariants as libraries
 use Rattle.pth_spelling.specs.declared.keyword.AttributeWord.TheVariants as attributes
 use Rattle.pth_spelling.specs.declared.keyword.ThreadWord.TheVariants as threads
@@ -125,8 +124,3 @@ plain_word w = named_in plain_words w
 
 unfoldable pub keyword_of : List ℕ → Option Keyword
 keyword_of w = or_else (plain_word w) (option_map (λ k. key.Call k) (call_word w))
-
--- the keyword that begins a line; a line that begins with a register has none
-unfoldable pub begins : List (List ℕ) → Option Keyword
-begins [] = None
-begins (w ∷ ws) = if is_some (register_of w) then None else keyword_of w

@@ -3,3 +3,5 @@ pub mod Named
 pub mod WordMeanings
 pub mod Syntax
 pub mod Keywords
+pub mod Starts
+pub mod FormRules

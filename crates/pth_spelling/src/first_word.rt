@@ -1,8 +1,7 @@
 //! The words that begin lines, read.
 
 ghost use Rattle.std.specs.Prelude.{◌≡◌};
-ghost use Rattle.pth_spelling.specs.Texts.{texts};
-ghost use Rattle.pth_spelling.specs.Keywords.{begins, call_word, entry_word, keyword_of, new_event_word, plain_word};
+ghost use Rattle.pth_spelling.specs.Keywords.{call_word, entry_word, keyword_of, new_event_word, plain_word};
 
 use crate::keyword::{
     AttributeWord, BarrierWord, CallWord, CancellationWord, CleanupWord, ConditionWord, EntryWord,
@@ -10,7 +9,6 @@ use crate::keyword::{
     RwlockWord, ThreadWord, UtilityWord,
 };
 use crate::named::named;
-use crate::words::register;
 
 static CALL_WORDS: [(&str, CallWord); 75] = [
     ("kill", CallWord::Library(LibraryWord::Kill)),
@@ -189,22 +187,5 @@ pub fn keyword(word: &[u8]) -> Option<Keyword>
         Some(k)
     } else {
         Some(Keyword::Call(call_word(word)?))
-    }
-}
-
-/// The keyword that begins a line. A line that begins with a register has none.
-#[tactic(auto, unfolding(crate::specs::Keywords::begins))]
-pub fn begins(words: &[&[u8]]) -> Option<Keyword>
-    ensures { result ≡ begins (texts words.now) }
-{
-    match words {
-        [] => None,
-        [word, ..] => {
-            if register(word).is_some() {
-                None
-            } else {
-                keyword(word)
-            }
-        }
     }
 }

@@ -9,6 +9,7 @@ use pth_line::call_line::CallLine;
 use pth_line::cells::Cells;
 use pth_line::frame::{Frame, Owed};
 use pth_line::line::Line;
+use pth_spelling::start::Start;
 use pth_text::number::read_number;
 use std::alloc::Global;
 
@@ -33,7 +34,7 @@ fn made(alloc: Global, line: &CallLine) -> Result<Call, OutOfMemory> {
 
 /// A call as a script has it.
 fn script_call(alloc: Global, words: &[&[u8]]) -> Result<Option<Call>, OutOfMemory> {
-    match line(alloc, words)? {
+    match line(alloc, Start::of(words), words)? {
         Some(Line::Call { answer: None, call }) => Ok(Some(made(alloc, &call)?)),
         _ => Ok(None),
     }

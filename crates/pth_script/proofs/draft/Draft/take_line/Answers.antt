@@ -10,7 +10,7 @@ pub returns-then-is_end : goal.returns-then-is_end
 returns-then-is_end c =
     let ws = texts c.args.words.now in
     let d = draft_parts c.args.self.now in
-    let e = ap is_end (sym c.begins.ensures) ∙ sym c.is_end.ensures ∙ c.if-is_end.true in
+    let e = ap is_end (sym (c.keyword.ensures (texts c.args.words.now) c.requires.start)) ∙ sym c.is_end.ensures ∙ c.if-is_end.true in
     on_ok_weaker c.close_body.result (λ (h : IsClosed d (draft_parts c.close_body.new.self)). body_end_taken d ws c.requires.kept c.requires.section (draft_parts c.close_body.new.self) h e) c.close_body.ensures
 
 pub push-requires : goal.push-requires
@@ -24,5 +24,5 @@ returns-in_ok-push c =
 
 pub returns-in_default : goal.returns-in_default
 returns-in_default c =
-    let e = ap is_end (sym c.begins.ensures) ∙ sym c.is_end.ensures ∙ c.if-is_end.false in
+    let e = ap is_end (sym (c.keyword.ensures (texts c.args.words.now) c.requires.start)) ∙ sym c.is_end.ensures ∙ c.if-is_end.false in
     absurd (line_is_read (draft_parts c.args.self.now) (texts c.args.words.now) c.requires.kept c.requires.section c.requires.fine e (sym c.in_ok-line.ensures ∙ c.in_default.is))

@@ -1,7 +1,7 @@
 use Rattle.std.proofs.Common.{◌∙◌, sym, subst, arith}
 use Rattle.pth_spelling.specs.Texts.{texts}
 use Rattle.pth_grammar.specs.declared.section.Section.TheVariants as sec
-use Rattle.pth_kernel_lines.specs.declared.part.KernelPart.TheVariants as part
+use Rattle.pth_grammar.specs.declared.kernel_part.KernelPart.TheVariants as part
 use Rattle.pth_script.specs.Drafts.{draft_parts, Takes}
 use Rattle.pth_script.specs.KernelDrafts.{IsKernelInOrder}
 use Rattle.pth_script.proofs.TakenParts.{part_of, clock_line_taken, open_low, open_rises, nothing_came, open_line_taken, stamp_fine, stamp_line_taken}

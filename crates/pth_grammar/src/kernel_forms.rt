@@ -1,10 +1,10 @@
 //! The words that must follow the first word of a line of a kernel.
 
 ghost use Rattle.std.specs.Prelude.{◌≡◌, option_map};
-ghost use Rattle.pth_kernel_lines.specs.KernelForms.{entry_forms, at_forms, kernel_forms};
+ghost use Rattle.pth_grammar.specs.KernelForms.{entry_forms, at_forms, kernel_forms};
 ghost use Rattle.pth_spelling.specs.Texts.{texts};
 
-use crate::part::KernelPart;
+use crate::kernel_part::KernelPart;
 use pth_kernel::trace::{LATEST_TIME, MOST_CLOCK, MOST_ROOM};
 use pth_spelling::first_word::entry_word;
 use pth_spelling::form::Form;

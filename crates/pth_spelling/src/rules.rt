@@ -1,13 +1,13 @@
 //! The rules that words break by their forms.
 
 ghost use Rattle.std.specs.Prelude.{◌≡◌};
-ghost use Rattle.pth_forms.specs.Forms.{is_listed, has_form, has_pairs, misses, wrong};
+ghost use Rattle.pth_spelling.specs.FormRules.{is_listed, has_form, has_pairs, misses, wrong};
 ghost use Rattle.pth_spelling.specs.declared.form.Form.TheVariants as form;
 ghost use Rattle.pth_spelling.specs.Texts.{texts};
 
-use pth_spelling::first_word::{entry_word, new_event_word};
-use pth_spelling::form::Form;
-use pth_spelling::words::{
+use crate::first_word::{entry_word, new_event_word};
+use crate::form::Form;
+use crate::words::{
     descriptor, direction, field, goals, maybe_name, maybe_operand, mode, name, natural,
     number_within, operand, query, register, relation, set, shared, state, value, which,
 };
@@ -76,7 +76,7 @@ fn has_pairs(form: Form, word: &[u8]) -> bool
 }
 
 /// Whether a word breaks a rule by its form.
-#[tactic(auto, unfolding(crate::specs::Forms::misses))]
+#[tactic(auto, unfolding(crate::specs::FormRules::misses))]
 fn misses(rule: Rule, form: Form, word: &[u8]) -> bool
     ensures { result ≡ misses rule form word.now }
 {

@@ -1,9 +1,9 @@
 use Rattle.std.proofs.Common.{rules, tests, ◌∙◌}
 use Rattle.std.proofs.lemmas.Iterator.{YieldsList-from_slice, YieldsList-from_zip}
 use Rattle.std.proofs.lemmas.Iterator.Search.{any_from_yields_List}
-use Rattle.pth_forms.specs.Forms.{misses}
-use Rattle.pth_forms.proofs.Wrong.{wrong_pairs}
-use Rattle.pth_forms.proofs.rules.wrong.Goals as goal
+use Rattle.pth_spelling.specs.FormRules.{misses}
+use Rattle.pth_spelling.proofs.Wrong.{wrong_pairs}
+use Rattle.pth_spelling.proofs.rules.wrong.Goals as goal
 
 pub returns : goal.returns
 returns c =

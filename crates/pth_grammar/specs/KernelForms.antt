@@ -8,8 +8,8 @@ use Rattle.pth_spelling.specs.declared.keyword.Keyword.{Keyword}
 use Rattle.pth_spelling.specs.declared.keyword.Keyword.TheVariants as key
 use Rattle.pth_spelling.specs.declared.form.Form.{Form}
 use Rattle.pth_spelling.specs.declared.form.Form.TheVariants as form
-use Rattle.pth_kernel_lines.specs.declared.part.KernelPart.{KernelPart}
-use Rattle.pth_kernel_lines.specs.declared.part.KernelPart.TheVariants as part
+use Rattle.pth_grammar.specs.declared.kernel_part.KernelPart.{KernelPart}
+use Rattle.pth_grammar.specs.declared.kernel_part.KernelPart.TheVariants as part
 
 -- how many microseconds a turn takes
 abbrev pub clock_form : Form

@@ -8,7 +8,7 @@ use Rattle.pth_text.specs.Number.{numeral_value}
 use Rattle.pth_text.specs.declared.rule.Rule.TheVariants as rule
 use Rattle.pth_spelling.specs.Keywords.{new_event_word, entry_word}
 use Rattle.pth_spelling.specs.WordMeanings.{natural_of, number_from, descriptor_of, register_of, operand_of, value_of, shared_of, name_of, set_of, bytes_of, has_hex, given_of, goals_of, which_of, relation_of, field_of, thread_state_of, mode_of, direction_of, query_of, maybe}
-use Rattle.pth_forms.specs.Forms.{misses}
+use Rattle.pth_spelling.specs.FormRules.{misses}
 use Rattle.pth_spelling.specs.declared.form.Form.{Form}
 use Rattle.pth_spelling.specs.declared.form.Form.TheVariants as form
 

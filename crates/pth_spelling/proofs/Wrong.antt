@@ -2,7 +2,7 @@
 use Rattle.std.proofs.Common.{◌≡◌, ℕ, ◌||◌, List, [], ◌∷◌, refl, ap}
 use Rattle.std.specs.List.{list_any, zip}
 use denote.Ref.{Bor}
-use Rattle.pth_forms.specs.Forms.{misses, wrong}
+use Rattle.pth_spelling.specs.FormRules.{misses, wrong}
 use Rattle.pth_spelling.specs.Texts.{texts}
 use Rattle.pth_spelling.specs.declared.form.Form.{Form}
 use Rattle.pth_text.specs.declared.rule.Rule.{Rule}

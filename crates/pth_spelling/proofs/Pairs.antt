@@ -2,7 +2,7 @@
 use Rattle.std.proofs.Common.{◌≡◌, ◌≢◌, ◌==◌, ℕ, Bool, true, false, cond, not, ◌||◌, List, [], ◌∷◌, length, drop, Some, None, refl, sym, ap, ◌∙◌}
 use Rattle.std.specs.Prelude.{is_some}
 use Rattle.pth_text.specs.Hex.{is_hex, pair_bytes, hex_bytes}
-use Rattle.pth_forms.specs.Forms.{has_pairs}
+use Rattle.pth_spelling.specs.FormRules.{has_pairs}
 use Rattle.pth_spelling.specs.WordMeanings.{given_of, has_hex}
 use Rattle.pth_spelling.specs.declared.form.Form.{Form}
 use Rattle.pth_spelling.specs.declared.form.Form.TheVariants as form

@@ -3,7 +3,7 @@ use Rattle.std.specs.Prelude.{ℕ, ◌≡◌, ◌<◌, ◌≤◌, false, List, S
 use Rattle.pth_base.specs.Descriptors.{descriptor_limit}
 use Rattle.pth_kernel.specs.Trace.{most_clock, is_out_of_range}
 use Rattle.pth_kernel.specs.declared.trace.Stamp.{Stamp}
-use Rattle.pth_kernel_lines.specs.KernelLines.{clock_line, open_line, stamp_line}
+use Rattle.pth_grammar.specs.KernelLines.{clock_line, open_line, stamp_line}
 
 abbrev pub ClocksAreInRange : Type 0
 ClocksAreInRange = (words : List (List ℕ)) (clock : ℕ) → clock_line words ≡ Some clock → clock ≤ most_clock

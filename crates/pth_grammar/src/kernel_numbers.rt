@@ -1,7 +1,7 @@
 //! Numbers of a kernel's lines.
 
 ghost use Rattle.std.specs.Prelude.{◌≡◌};
-ghost use Rattle.pth_kernel_lines.specs.KernelNumbers.{ticks_of, time_of, room_of};
+ghost use Rattle.pth_grammar.specs.KernelNumbers.{ticks_of, time_of, room_of};
 
 use pth_base::ids::Micros;
 use pth_kernel::trace::{LATEST_TIME, MOST_CLOCK, MOST_ROOM};

@@ -1,5 +1,5 @@
-use Rattle.pth_kernel_lines.proofs.Ranges.{clock_within, open_within, stamp_within}
-use Rattle.pth_kernel_lines.proofs.laws.what_lines_stand_for_is_in_range.Goals as goal
+use Rattle.pth_grammar.proofs.KernelRanges.{clock_within, open_within, stamp_within}
+use Rattle.pth_grammar.proofs.laws.what_kernel_lines_stand_for_is_in_range.Goals as goal
 
 pub returns-clause-clocks : goal.returns-clause-clocks
 returns-clause-clocks c = λ ws k e. clock_within ws k e

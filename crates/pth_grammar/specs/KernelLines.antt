@@ -4,13 +4,14 @@ use Rattle.pth_kernel.specs.declared.trace.Entry.{Entry}
 use Rattle.pth_kernel.specs.declared.trace.Entry.TheVariants as entry
 use Rattle.pth_kernel.specs.declared.trace.Stamp.{Stamp}
 use Rattle.pth_text.specs.Hex.{hex_bytes}
-use Rattle.pth_spelling.specs.Keywords.{begins, entry_word}
+use Rattle.pth_spelling.specs.Keywords.{entry_word}
+use Rattle.pth_spelling.specs.Starts.{begins}
 use Rattle.pth_spelling.specs.declared.keyword.EntryWord.{EntryWord}
 use Rattle.pth_spelling.specs.declared.keyword.EntryWord.TheVariants as entries
 use Rattle.pth_spelling.specs.declared.keyword.Keyword.{Keyword}
 use Rattle.pth_spelling.specs.declared.keyword.Keyword.TheVariants as key
 use Rattle.pth_spelling.specs.WordMeanings.{descriptor_of}
-use Rattle.pth_kernel_lines.specs.KernelNumbers.{ticks_of, time_of, room_of}
+use Rattle.pth_grammar.specs.KernelNumbers.{ticks_of, time_of, room_of}
 
 -- ---- the clock, and what is open from the start
 

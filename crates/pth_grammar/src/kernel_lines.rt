@@ -1,36 +1,39 @@
 //! What the lines of a kernel stand for.
 
 ghost use Rattle.std.specs.Prelude.{◌≡◌, IfOk};
-ghost use Rattle.pth_kernel_lines.specs.KernelLines.{clock_line, open_line, entry_alone, entry_with, entry_by, stamp_of, stamp_line};
+ghost use Rattle.pth_grammar.specs.KernelLines.{clock_line, open_line, entry_alone, entry_with, entry_by, stamp_of, stamp_line};
+ghost use Rattle.pth_spelling.specs.Starts.{begins};
 ghost use Rattle.pth_spelling.specs.Texts.{texts};
 
-use crate::numbers::{clock, room, time};
+use crate::kernel_numbers::{clock, room, time};
 use pth_base::ids::{Fd, Micros};
 use pth_base::memory::OutOfMemory;
 use pth_kernel::trace::{Entry, Stamp};
-use pth_spelling::first_word::{begins, entry_word};
+use pth_spelling::first_word::entry_word;
 use pth_spelling::keyword::{EntryWord, Keyword};
 use pth_spelling::words::descriptor;
 use pth_text::hex::read_hex;
 use std::alloc::Global;
 
-/// How many microseconds a turn takes, by a line that begins with `clock`.
+/// How many microseconds a turn takes, by a line that begins with `clock`. The keyword is the one that begins the line.
 #[tactic(auto, unfolding(crate::specs::KernelLines::clock_line))]
-pub fn clock_line(words: &[&[u8]]) -> Option<Micros>
+pub fn clock_line(keyword: Option<Keyword>, words: &[&[u8]]) -> Option<Micros>
+    requires { keyword ≡ begins (texts words.now) }
     ensures { result ≡ clock_line (texts words.now) }
 {
-    match (begins(words), words) {
+    match (keyword, words) {
         (Some(Keyword::Clock), [_, word]) => clock(word),
         _ => None,
     }
 }
 
-/// The number of the descriptor that a line names which begins with `open`, from 0 to 63.
+/// The number of the descriptor that a line names which begins with `open`, from 0 to 63. The keyword is the one that begins the line.
 #[tactic(auto, unfolding(crate::specs::KernelLines::open_line))]
-pub fn open_line(words: &[&[u8]]) -> Option<u8>
+pub fn open_line(keyword: Option<Keyword>, words: &[&[u8]]) -> Option<u8>
+    requires { keyword ≡ begins (texts words.now) }
     ensures { result ≡ open_line (texts words.now) }
 {
-    match (begins(words), words) {
+    match (keyword, words) {
         (Some(Keyword::Open), [_, word]) => descriptor(word),
         _ => None,
     }
@@ -97,12 +100,17 @@ fn stamp(alloc: Global, words: &[&[u8]]) -> Result<Option<Stamp>, OutOfMemory>
     }))
 }
 
-/// What comes by a line that begins with `at`.
+/// What comes by a line that begins with `at`. The keyword is the one that begins the line.
 #[tactic(auto, unfolding(crate::specs::KernelLines::stamp_line))]
-pub fn stamp_line(alloc: Global, words: &[&[u8]]) -> Result<Option<Stamp>, OutOfMemory>
+pub fn stamp_line(
+    alloc: Global,
+    keyword: Option<Keyword>,
+    words: &[&[u8]],
+) -> Result<Option<Stamp>, OutOfMemory>
+    requires { keyword ≡ begins (texts words.now) }
     ensures { IfOk result (λ found. found ≡ stamp_line (texts words.now)) }
 {
-    match (begins(words), words) {
+    match (keyword, words) {
         (Some(Keyword::At), [_, words @ ..]) => stamp(alloc, words),
         _ => Ok(None),
     }

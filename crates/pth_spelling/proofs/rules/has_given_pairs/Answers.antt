@@ -1,6 +1,6 @@
 use Rattle.std.proofs.Common.{◌∙◌}
-use Rattle.pth_forms.proofs.Pairs.{pairs_after_hex}
-use Rattle.pth_forms.proofs.rules.has_given_pairs.Goals as goal
+use Rattle.pth_spelling.proofs.Pairs.{pairs_after_hex}
+use Rattle.pth_spelling.proofs.rules.has_given_pairs.Goals as goal
 
 pub returns-else-is_empty : goal.returns-else-is_empty
 returns-else-is_empty c =

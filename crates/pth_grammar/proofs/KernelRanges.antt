@@ -9,14 +9,15 @@ use Rattle.pth_kernel.specs.declared.trace.Entry.TheVariants as entry
 use Rattle.pth_kernel.specs.declared.trace.Stamp.{Stamp}
 use Rattle.pth_text.specs.Hex.{is_hex, pair_bytes, hex_bytes}
 use Rattle.pth_text.specs.Number.{numeral_value}
-use Rattle.pth_spelling.specs.Keywords.{begins, entry_word}
+use Rattle.pth_spelling.specs.Keywords.{entry_word}
+use Rattle.pth_spelling.specs.Starts.{begins}
 use Rattle.pth_spelling.specs.WordMeanings.{below, number_from, descriptor_of}
 use Rattle.pth_spelling.specs.declared.keyword.EntryWord.{EntryWord}
 use Rattle.pth_spelling.specs.declared.keyword.EntryWord.TheVariants as entries
 use Rattle.pth_spelling.specs.declared.keyword.Keyword.{Keyword}
 use Rattle.pth_spelling.specs.declared.keyword.Keyword.TheVariants as key
-use Rattle.pth_kernel_lines.specs.KernelNumbers.{ticks_of, time_of, room_of}
-use Rattle.pth_kernel_lines.specs.KernelLines.{clock_by, clock_line, opening_by, open_line, entry_alone, entry_with, entry_by, stamp_of, stamp_by, stamp_line}
+use Rattle.pth_grammar.specs.KernelNumbers.{ticks_of, time_of, room_of}
+use Rattle.pth_grammar.specs.KernelLines.{clock_by, clock_line, opening_by, open_line, entry_alone, entry_with, entry_by, stamp_of, stamp_by, stamp_line}
 
 -- ---- numbers
 

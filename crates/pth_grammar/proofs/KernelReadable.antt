@@ -2,19 +2,20 @@
 use Rattle.std.proofs.Common.{◌≡◌, ℕ, true, List, [], ◌∷◌, drop, Option, Some, None, refl, sym, subst}
 use Rattle.std.specs.Prelude.{is_some}
 use Rattle.pth_kernel.specs.Trace.{latest_time, most_room, most_clock}
-use Rattle.pth_spelling.specs.Keywords.{begins, entry_word}
+use Rattle.pth_spelling.specs.Keywords.{entry_word}
+use Rattle.pth_spelling.specs.Starts.{begins}
 use Rattle.pth_spelling.specs.declared.keyword.EntryWord.{EntryWord}
 use Rattle.pth_spelling.specs.declared.keyword.EntryWord.TheVariants as entries
 use Rattle.pth_spelling.specs.declared.keyword.Keyword.TheVariants as key
 use Rattle.pth_spelling.specs.declared.form.Form.{Form}
 use Rattle.pth_spelling.specs.declared.form.Form.TheVariants as form
-use Rattle.pth_forms.proofs.Options.{some_map, some_then}
-use Rattle.pth_forms.proofs.Fine.{AllFine, IsFine, Reads, within, descriptor, entry, pairs}
-use Rattle.pth_kernel_lines.specs.KernelNumbers.{ticks_of, time_of, room_of}
-use Rattle.pth_kernel_lines.specs.KernelForms.{clock_form, time_form, room_form, entry_forms, at_forms, kernel_forms}
-use Rattle.pth_kernel_lines.specs.KernelLines.{clock_by, clock_line, opening_by, open_line, entry_alone, entry_with, entry_by, stamp_of, stamp_by, stamp_line}
-use Rattle.pth_kernel_lines.specs.declared.part.KernelPart.{KernelPart}
-use Rattle.pth_kernel_lines.specs.declared.part.KernelPart.TheVariants as part
+use Rattle.pth_spelling.proofs.Options.{some_map, some_then}
+use Rattle.pth_spelling.proofs.Fine.{AllFine, IsFine, Reads, within, descriptor, entry, pairs}
+use Rattle.pth_grammar.specs.KernelNumbers.{ticks_of, time_of, room_of}
+use Rattle.pth_grammar.specs.KernelForms.{clock_form, time_form, room_form, entry_forms, at_forms, kernel_forms}
+use Rattle.pth_grammar.specs.KernelLines.{clock_by, clock_line, opening_by, open_line, entry_alone, entry_with, entry_by, stamp_of, stamp_by, stamp_line}
+use Rattle.pth_grammar.specs.declared.kernel_part.KernelPart.{KernelPart}
+use Rattle.pth_grammar.specs.declared.kernel_part.KernelPart.TheVariants as part
 
 -- ---- numbers
 

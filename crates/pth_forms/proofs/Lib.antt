@@ -1,4 +1,0 @@
-pub mod Options
-pub mod Pairs
-pub mod Wrong
-pub mod Fine

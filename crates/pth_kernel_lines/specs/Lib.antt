@@ -1,4 +1,0 @@
-pub mod KernelNumbers
-pub mod KernelForms
-pub mod KernelLines
-pub mod Ranges
