@@ -2,3 +2,12 @@ pub mod LineFound
 pub mod Takings
 pub mod AskedHelp
 pub mod GivenHelp
+pub mod Splits
+pub mod Pieces
+pub mod SetsBack
+pub mod WordsBack
+pub mod FirstWords
+pub mod Scripted
+pub mod CallsBack
+pub mod OwnBack
+pub mod Passing

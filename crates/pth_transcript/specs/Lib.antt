@@ -5,3 +5,5 @@ pub mod FaultLines
 pub mod Help
 pub mod Reading
 pub mod Threads
+pub mod Readable
+pub mod ReadBack

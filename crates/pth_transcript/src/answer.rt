@@ -1,5 +1,9 @@
 //! Answers, read.
 
+ghost use Rattle.std.specs.Prelude.{◌≡◌, ◌<◌, ℕ, List, All, Some, IfOk};
+ghost use Rattle.pth_text.specs.Hex.{hex_of};
+ghost use Rattle.pth_print.specs.WordTexts.{hex_word};
+
 use crate::number::natural;
 use pth_base::answer::Answer;
 use pth_base::bytes::Bytes;
@@ -38,7 +42,10 @@ fn refusal(word: &[u8]) -> Option<Answer> {
 const PIECE: usize = 4096;
 
 /// The bytes that any number of pairs of digits spell.
-fn joined(alloc: Global, digits: &[u8]) -> Result<Option<Bytes>, OutOfMemory> {
+fn joined(alloc: Global, digits: &[u8]) -> Result<Option<Bytes>, OutOfMemory>
+    ensures { IfOk result
+        (λ found. (bs : List ℕ) → All (λ b. b < 256) bs → digits.now ≡ hex_of bs → found ≡ Some bs) }
+{
     let mut bytes = Vec::new(alloc);
     for piece in digits.chunks(PIECE) {
         let Some(more) = read_hex(alloc, piece)? else {
@@ -50,7 +57,10 @@ fn joined(alloc: Global, digits: &[u8]) -> Result<Option<Bytes>, OutOfMemory> {
 }
 
 /// The bytes that `hex:` and any number of pairs of digits spell.
-pub fn bytes(alloc: Global, word: &[u8]) -> Result<Option<Bytes>, OutOfMemory> {
+pub fn bytes(alloc: Global, word: &[u8]) -> Result<Option<Bytes>, OutOfMemory>
+    ensures { IfOk result
+        (λ found. (bs : List ℕ) → All (λ b. b < 256) bs → word.now ≡ hex_word bs → found ≡ Some bs) }
+{
     match word {
         [b'h', b'e', b'x', b':', digits @ ..] => joined(alloc, digits),
         _ => Ok(None),
