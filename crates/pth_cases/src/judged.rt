@@ -16,18 +16,15 @@ fn judged(alloc: Global, transcript: &str) -> Result<String> {
     checked.written(alloc)
 }
 
-/// Judges the transcript that a run wrote, if it wrote one, and prints what is said of it unless it is lawful.
-pub fn print_unlawful(
-    rt: &(impl Print + AllocGlobal),
-    line: &str,
-    status: u8,
-    written: &str,
-) -> Result<()> {
-    if writes_transcript(line, status) {
-        let said = judged(rt.alloc(), written)?;
-        if !said.as_str().starts_with("lawful ") {
-            println!(rt; "NOT LAWFUL: {said}")?;
-        }
+/// Judges the transcript that a run wrote, if it wrote one: what is said of it, unless it is lawful.
+pub fn unlawful(alloc: Global, line: &str, status: u8, written: &str) -> Result<Option<String>> {
+    if !writes_transcript(line, status) {
+        return Ok(None);
     }
-    Ok(())
+    let said = judged(alloc, written)?;
+    if said.as_str().starts_with("lawful ") {
+        return Ok(None);
+    }
+    let text = format!(in alloc; "not lawful: {}", said.as_str().trim_end())?;
+    Ok(Some(text))
 }

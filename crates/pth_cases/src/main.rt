@@ -1,135 +1,69 @@
-//! Plays scripts in memory, and prints what each run writes and the status that it comes to.
+//! Plays, checks and draws the cases of `data/`, and compares what is written with what is wanted.
 //!
-//! Each word of the program is one command line of `pth_play`, and the last of its words names a file. A `.texts`, a `.tails` and a
-//! `.runs` have many scripts, one in each line (`escapes`); another file is one script. Of a `.texts` the last line of each run is
-//! printed, of a `.tails` the number of lines and the last three (`tails`), and of the others all lines. A `.cuts` is a script of
-//! which each beginning is played (`cuts`). A `.objects` has runs over objects that fail (`objects`). Each transcript that a run
-//! writes is judged too (`judged`), and told only if it is not lawful.
-//!
-//! A `.checks` has transcripts, one in each line, which are judged by `pth_check`, and a `.pictures` some that `pth_picture` draws. Of those of a
-//! `.drawings` the number of lines of the picture and the last three are printed.
+//! `data/README.md` describes the files. The program is run in `data/`, and reads each folder there, or the folders that its words
+//! name. It prints a line for each folder, and one for each difference: the file, the line, what is wanted and what was written. A
+//! difference is an error, unless it is one of the folder `wrong`, whose cases differ on purpose.
 #![tactic(auto)]
 
+mod cases;
 mod cuts;
 mod escapes;
+mod folder;
 mod judged;
 mod objects;
 mod played;
 mod program;
-mod tails;
+mod report;
+mod scripts;
+mod wanted;
 
-use crate::cuts::print_cuts;
-use crate::escapes::unescaped;
-use crate::judged::print_unlawful;
-use crate::objects::print_objects;
-use crate::played::{call_on, last_word, play_script};
-use crate::program::Program;
-use crate::tails::print_tail;
-use anyhow::Result;
-use std::alloc::AllocError;
+use crate::folder::{check_folder, names_in};
+use crate::report::Tally;
+use anyhow::{Result, bail};
+use std::env;
 use std::rt::Files;
-use std::{env, fs};
 
-/// Prints all that a script's run writes, and its status.
-fn print_run(rt: &(impl Print + AllocGlobal), line: &str, script: &str) -> Result<()> {
-    let played = play_script(rt.alloc(), line, script).map_err(|_| AllocError)?;
-    let written = played.written(rt.alloc())?;
-    println!(rt; "{written}status {}", played.status)?;
-    print_unlawful(rt, line, played.status, written.as_str())
+/// Checks the folders that words name.
+fn check_named<R: Print + Eprint + Files + AllocGlobal + Clone + Drop>(
+    rt: &R,
+    folders: &Vec<String>,
+) -> Result<Tally> {
+    let mut all = Tally::none();
+    for folder in folders {
+        all = all.and(check_folder(rt, folder.as_str())?);
+    }
+    Ok(all)
 }
 
-/// Which of the lines that a call writes are printed.
-#[derive(Clone, Copy)]
-enum Shown {
-    All,
-    Last,
-    Tail,
-}
-
-/// What is done with each text of a list.
-#[derive(Clone, Copy)]
-struct Use {
-    program: Program,
-    shown: Shown,
-}
-
-/// Prints what comes of each text of a list, and its status. A line that begins with `--` is a heading.
-fn print_list(rt: &(impl Print + AllocGlobal), line: &str, list: &str, of: Use) -> Result<()> {
-    for text in list.lines() {
-        if text.starts_with("--") {
-            println!(rt; "{text}")?;
-        } else if !text.is_empty() {
-            print_text(rt, line, text, of)?;
+/// All folders that lie here. Only files have a `.` in their names.
+fn all_folders<R: Files + AllocGlobal + Clone + Drop>(rt: &R) -> Result<Vec<String>> {
+    let mut folders = Vec::new(rt.alloc());
+    for name in names_in(rt, ".")? {
+        if !name.as_str().contains('.') {
+            folders.push(name)?;
         }
     }
-    Ok(())
+    Ok(folders)
 }
 
-fn print_text(rt: &(impl Print + AllocGlobal), line: &str, text: &str, of: Use) -> Result<()> {
-    let input = unescaped(rt.alloc(), text)?;
-    let called = call_on(rt.alloc(), of.program, line, input.as_str()).map_err(|_| AllocError)?;
-    let written = called.written(rt.alloc())?;
-    print_shown(rt, text, called.status, written.as_str(), of.shown)?;
-    match of.program {
-        Program::Play => print_unlawful(rt, line, called.status, written.as_str()),
-        _ => Ok(()),
+/// The folders that the words of the program name, or all.
+fn folders<R: env::Env + Files + AllocGlobal + Clone + Drop>(rt: &R) -> Result<Vec<String>> {
+    let mut named = Vec::new(rt.alloc());
+    for word in env::args(rt)?.skip(1) {
+        named.push(word)?;
     }
-}
-
-/// Prints a text, its status, and what is shown of what was written.
-fn print_shown(rt: &impl Print, text: &str, status: u8, written: &str, shown: Shown) -> Result<()> {
-    match shown {
-        Shown::All => println!(rt; "{text}\n{written}status {status}")?,
-        Shown::Last => {
-            let last = written.lines().last().unwrap_or("");
-            println!(rt; "{text} -> {status} {last}")?;
-        }
-        Shown::Tail => {
-            println!(rt; "{text}")?;
-            print_tail(rt, written)?;
-            println!(rt; "status {status}")?;
-        }
+    if named.is_empty() {
+        return all_folders(rt);
     }
-    Ok(())
-}
-
-/// What is done with the texts of a file, if it is a list of texts.
-fn use_of(name: &str) -> Option<Use> {
-    let (program, shown) = match name.rsplit_once('.') {
-        Some((_, "texts")) => (Program::Play, Shown::Last),
-        Some((_, "tails")) => (Program::Play, Shown::Tail),
-        Some((_, "runs")) => (Program::Play, Shown::All),
-        Some((_, "checks")) => (Program::Check, Shown::Last),
-        Some((_, "pictures")) => (Program::Picture, Shown::All),
-        Some((_, "drawings")) => (Program::Picture, Shown::Tail),
-        _ => return None,
-    };
-    Some(Use { program, shown })
-}
-
-/// Prints what comes of the file that a line names.
-fn print_content(rt: &(impl Print + AllocGlobal), line: &str, content: &str) -> Result<()> {
-    let name = last_word(line);
-    if let Some(of) = use_of(name) {
-        print_list(rt, line, content, of)
-    } else if name.ends_with(".cuts") {
-        print_cuts(rt, line, content)
-    } else if name.ends_with(".objects") {
-        print_objects(rt, content)
-    } else {
-        print_run(rt, line, content)
-    }
-}
-
-fn print_file<R: Print + Files + AllocGlobal>(rt: &R, line: &str) -> Result<()> {
-    println!(rt; "== {line}")?;
-    let content = fs::read_to_string(rt, last_word(line))?;
-    print_content(rt, line, content.as_str())
+    Ok(named)
 }
 
 fn main(rt: HostRuntime) -> Result<()> {
-    for line in env::args(&rt)?.skip(1) {
-        print_file(&rt, line.as_str())?;
+    let folders = folders(&rt)?;
+    let all = check_named(&rt, &folders)?;
+    println!(rt; "all folders: {all}")?;
+    if all.faults > 0 {
+        bail!("{} differences that are not meant", all.faults);
     }
     Ok(())
 }

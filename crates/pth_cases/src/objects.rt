@@ -1,19 +1,11 @@
-//! Runs over objects that fail, one in each line of a file.
+//! Calls over objects that fail. `data/README.md` has the lines.
 //!
-//! A line `in the input: TEXT` says what the input holds from there on, and `in NAME: TEXT` what the one file is and holds
-//! (`escapes`). A line `of PROGRAM` says which program is run from there on, `pth_play` if none says it. A line that begins
-//! with `--` is a heading. Each other line is a run. It has conditions, with a `, ` between two,
-//! and then the words of the command line, each behind a `|`:
-//!
-//!     input fails at 2
-//!     file fails at 1 |y.pth
-//!     output takes 20, error output takes 9 |--steps|7
-//!
-//! The input or the file fails at its call with that number, counted from 1, and an output takes so many bytes. What no condition
-//! names never fails.
+//! A call has conditions, with a `, ` between two, and then the words of the command line, each behind a `|`. The input or the file
+//! fails at its call with the number that is named, counted from 1, and an output takes so many bytes. What no condition names never
+//! fails.
 
 use crate::escapes::unescaped;
-use crate::program::{Program, call, program_named};
+use crate::program::{Program, call};
 use anyhow::{Context, Result, bail};
 use pth_base::memory::OutOfMemory;
 use pth_streams::files::MemoryFiles;
@@ -24,8 +16,8 @@ use std::str;
 
 /// The program that is run, and the objects that it is handed.
 #[derive(Clone, Copy)]
-struct Objects<'a> {
-    program: Program,
+pub struct Objects<'a> {
+    pub program: Program,
     /// What the input holds, escaped.
     input: &'a str,
     /// The name of the file, and what it holds, escaped.
@@ -40,7 +32,7 @@ struct Objects<'a> {
 }
 
 /// Objects that hold nothing and never fail. They have more room than a run of these files writes.
-const SURE: Objects<'static> = Objects {
+pub const SURE: Objects<'static> = Objects {
     program: Program::Play,
     input: "",
     name: "",
@@ -160,43 +152,16 @@ fn play_line(alloc: Global, held: Objects<'_>, line: &str) -> Result<Written> {
     Ok(written.map_err(|_| AllocError)?)
 }
 
-/// Prints the run of a line: its status, and what was written to the output and to the error output.
-fn print_line(rt: &(impl Print + AllocGlobal), held: Objects<'_>, line: &str) -> Result<()> {
-    let written = play_line(rt.alloc(), held, line)?;
+/// The run of a call: its status, and what was written to the output and to the error output, on a line.
+pub fn run_over(alloc: Global, held: Objects<'_>, line: &str) -> Result<String> {
+    let written = play_line(alloc, held, line)?;
     let out = str::from_utf8(written.out.as_slice())?;
     let err = str::from_utf8(written.err.as_slice())?;
-    println!(rt; "{line} -> {} {out:?} {err:?}", written.status)?;
-    Ok(())
+    Ok(format!(in alloc; "{} {out:?} {err:?}", written.status)?)
 }
 
-/// The objects after a line, which may say what one of them holds, or which program is run.
-fn after<'a>(held: Objects<'a>, line: &'a str) -> Result<Objects<'a>> {
-    if let Some(name) = line.strip_prefix("of ") {
-        let program = program_named(name).context("no program")?;
-        return Ok(Objects { program, ..held });
-    }
-    let Some(holds) = line.strip_prefix("in ") else {
-        return Ok(held);
-    };
+/// The objects after a line `in WHAT: TEXT`, which says what one of them holds.
+pub fn after<'a>(held: Objects<'a>, holds: &'a str) -> Result<Objects<'a>> {
     let (what, text) = holds.split_once(": ").context("nothing is held")?;
     Ok(holding(held, what, text))
-}
-
-/// Whether a line is a heading, or says what an object holds or which program is run.
-fn is_said(line: &str) -> bool {
-    line.starts_with("--") || line.starts_with("in ") || line.starts_with("of ")
-}
-
-/// Prints the runs of a file.
-pub fn print_objects(rt: &(impl Print + AllocGlobal), content: &str) -> Result<()> {
-    let mut held = SURE;
-    for line in content.lines() {
-        held = after(held, line)?;
-        if is_said(line) {
-            println!(rt; "{line}")?;
-        } else if !line.is_empty() {
-            print_line(rt, held, line)?;
-        }
-    }
-    Ok(())
 }

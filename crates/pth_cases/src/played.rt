@@ -1,6 +1,8 @@
-//! Programs that are called under the words of a command line: a script is played, and a transcript is judged or drawn.
+//! Programs that are called over a text, under the words of a command line: a script is played, and a transcript is judged or drawn.
 
+use crate::judged::unlawful;
 use crate::program::{Program, call};
+use crate::wanted::difference;
 use anyhow::Result;
 use pth_base::memory::OutOfMemory;
 use pth_streams::files::SureFiles;
@@ -23,14 +25,6 @@ impl Played {
         let out = str::from_utf8(self.out.as_slice())?;
         let err = str::from_utf8(self.err.as_slice())?;
         Ok(format!(in alloc; "{out}{err}")?)
-    }
-}
-
-/// The last word of a line.
-pub fn last_word(line: &str) -> &str {
-    match line.rsplit_once(' ') {
-        Some((_, word)) => word,
-        None => line,
     }
 }
 
@@ -68,7 +62,21 @@ pub fn call_on(
     call_files(alloc, program, &words, &mut files)
 }
 
-/// Plays a script, which stands under every name, under the words of a line.
-pub fn play_script(alloc: Global, line: &str, script: &str) -> Result<Played, OutOfMemory> {
-    call_on(alloc, Program::Play, line, script)
+/// What differs between a wanted text and what a call over a text writes, if something does. A transcript that is written is judged too.
+pub fn difference_on(
+    alloc: Global,
+    program: Program,
+    line: &str,
+    text: &str,
+    wanted: &str,
+) -> Result<Option<String>> {
+    let called = call_on(alloc, program, line, text).map_err(|_| AllocError)?;
+    let written = called.written(alloc)?;
+    let differs = difference(alloc, wanted, called.status, written.as_str())?;
+    match program {
+        Program::Play if differs.is_none() => {
+            unlawful(alloc, line, called.status, written.as_str())
+        }
+        _ => Ok(differs),
+    }
 }
