@@ -1,5 +1,5 @@
 -- What is taken of the input or of a file, a line at a time.
-use Rattle.std.specs.Prelude.{◌≡◌, ℕ, Bool, true, false, not, List, [], ◌++◌, Option, Some, None, Result, Ok, Err, codes, if◌then◌else◌}
+use Rattle.std.specs.Prelude.{◌≡◌, ◌≢◌, ◌⊎◌, ℕ, Bool, true, false, not, List, [], ◌++◌, Option, Some, None, Result, Ok, Err, codes, if◌then◌else◌}
 use Rattle.std.specs.Io.KnownBytes.{Consumes, IsAtEnd}
 use Rattle.std.specs.Str.{bytes_eq}
 use Rattle.pth_streams.specs.Inputs.{Inputs}
@@ -68,6 +68,10 @@ pub record IsOver (old new : Ahead) : Type 0 where
   pub takes : Takes old new []
   pub unread : new.unread ≡ []
   pub left : IsAtEnd new.left
+
+-- something comes yet: a further line, which was taken, or there is none, and something stands behind the last one
+abbrev pub HasMore : (old new : Ahead) → Type 0
+HasMore old new = ((line : List ℕ) × Takes old new (line ++ codes "\n")) ⊎ (Takes old new [] × IsAtEnd new.left × (new.unread ≢ []))
 
 -- a reader of a transcript: what was read behind the last line, and how many lines were taken
 pub record Reading : Type 0 where

@@ -95,7 +95,8 @@ impl Lines {
 
     /// Whether nothing was read behind the line that was taken last.
     pub fn has_all(&self) -> bool
-        ensures { result ≡ true → self.now.unread ≡ [] }
+        ensures all { result ≡ true → self.now.unread ≡ [] }
+        ensures none { self.now.unread ≡ [] → result ≡ true }
     {
         self.rest == self.bytes.len()
     }

@@ -3,7 +3,7 @@
 ghost use Rattle.std.specs.Prelude.{◌≡◌, ◌+◌, ◌<◌, ◌^◌, ◌++◌, ◌⊎◌, [], IfOk, IfSome, IfErr, codes, option_map, true, false};
 ghost use Rattle.pth_streams.specs.Faults.{Counts, CountsRead};
 ghost use Rattle.pth_transcript.specs.Reading.{ComesTo, CountsFault, IsPlainPart, fault_of, part_line};
-ghost use Rattle.pth_transcript.specs.Taking.{IsOver, IsStarted, Opens, OtherStays, Takes, ahead, is_file, of_read};
+ghost use Rattle.pth_transcript.specs.Taking.{HasMore, IsOver, IsStarted, Opens, OtherStays, Takes, ahead, is_file, of_read};
 
 use crate::ending::{Ending, read_ending};
 use crate::fault::Fault;
@@ -161,6 +161,9 @@ impl Reader {
     ) -> Result<bool, Fault>
         requires started { IsStarted self.old.of_file (F.started files.old) }
         ensures over { IfOk result (λ over. over ≡ true → IsOver
+            (ahead self.old.unread (of_read self.old.of_file (S.left input.old) (F.left files.old)))
+            (ahead self.new.unread (of_read self.old.of_file (S.left input.new) (F.left files.new)))) }
+        ensures more { IfOk result (λ over. over ≡ false → HasMore
             (ahead self.old.unread (of_read self.old.of_file (S.left input.old) (F.left files.old)))
             (ahead self.new.unread (of_read self.old.of_file (S.left input.new) (F.left files.new)))) }
         ensures lines { self.new.lines ≡ self.old.lines }
