@@ -3,12 +3,13 @@
 #![tactic(auto)]
 
 use pth_checker::{HELP, PROGRAM, check};
+use pth_filter::faults::fault_of_words;
+use pth_filter::finish::report_fault;
+use pth_filter::help::{asks_help, write_help};
 use pth_streams::arguments::arguments;
 use pth_streams::open_files::OpenFiles;
 use pth_streams::reading::Reading;
 use pth_streams::writing::Writing;
-use pth_transcript::fault::{Fault, report_fault};
-use pth_transcript::help::{asks_help, write_help};
 use std::process::ExitCode;
 
 fn main(rt: HostRuntime) -> ExitCode {
@@ -16,7 +17,7 @@ fn main(rt: HostRuntime) -> ExitCode {
     let words = match arguments(&rt) {
         Ok(words) => words,
         Err(e) => {
-            let status = report_fault(rt.alloc(), PROGRAM, Fault::from(e), &mut err);
+            let status = report_fault(rt.alloc(), PROGRAM, fault_of_words(e), &mut err);
             return ExitCode::from(status);
         }
     };

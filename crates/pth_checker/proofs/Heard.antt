@@ -18,11 +18,12 @@ use Rattle.pth_checker.specs.declared.verdict.Verdict.{Verdict}
 use Rattle.pth_checker.specs.declared.verdict.Verdict.TheVariants.{Lawful, Unlawful}
 use Rattle.pth_streams.specs.Inputs.{AreHeld}
 use Rattle.pth_transcript.specs.Reading.{ComesTo as ReaderComesTo, IsPlainPart, next_line, part_line}
-use Rattle.pth_transcript.specs.Taking.{Ahead, IsOver, OtherStays, Takes, ahead, of_read}
+use Rattle.pth_filter.specs.Objects.{OtherStays, of_read}
+use Rattle.pth_transcript.specs.Taking.{Ahead, IsOver, Takes, ahead}
 use Rattle.pth_transcript.specs.Transcript.{ending_line, marks_of, told_line, told_lines}
 use Rattle.pth_transcript.specs.declared.ending.Ending.{Ending}
-use Rattle.pth_transcript.specs.declared.fault.Fault.{Fault}
-use Rattle.pth_transcript.specs.declared.fault.Fault.TheVariants as fault
+use Rattle.pth_print.specs.declared.fault_line.Fault.{Fault}
+use Rattle.pth_print.specs.declared.fault_line.Fault.TheVariants as fault
 use Rattle.pth_transcript.specs.declared.reader.Part.{Part}
 use Rattle.pth_transcript.specs.declared.reader.Part.TheVariants as part
 use Rattle.pth_transcript.specs.declared.told.Told.{Told}
@@ -124,7 +125,7 @@ module _ (content left : Option (List ℕ)) (h : Session) (told : List Told) whe
 
   -- the next line could not be read
   pub not_read : (f : Fault) → HasHeard content h left told → ReaderComesTo h.reader.lines f → ComesTo content (Err f)
-  not_read (fault.NoTranscript line) heard comes = refused_at line heard comes
+  not_read (fault.Input line why) heard comes = (refused_at line heard comes.0, comes.1)
   not_read fault.ReadFault heard comes = tt
   not_read fault.OutOfMemory heard comes = tt
   not_read fault.Words heard comes = comes

@@ -4,4 +4,4 @@ pub mod Parsed
 pub mod Heard
 pub mod Judging
 pub mod Opened
-pub mod ReadWell
+pub mod Running

@@ -4,7 +4,7 @@ use Rattle.std.specs.Str.{bytes_eq}
 use Rattle.pth_checker.specs.Session.{HasHeard, IsWhole}
 use Rattle.pth_checker.specs.declared.session.Session.{Session}
 use Rattle.pth_streams.specs.Inputs.{Inputs}
-use Rattle.pth_transcript.specs.Taking.{content_under, is_file, of_read}
+use Rattle.pth_filter.specs.Objects.{content_under, is_file, of_read}
 
 whole_by : (b : Bool) (input left held : Option (List ℕ)) → (not b ≡ true → left ≡ held) → (if not b then left else input) ≡ (if b then input else held)
 whole_by true input left held h = refl

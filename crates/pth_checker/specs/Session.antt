@@ -8,10 +8,12 @@ use Rattle.pth_checker.specs.declared.verdict.Verdict.{Verdict}
 use Rattle.std.specs.List.{All}
 use Rattle.pth_transcript.specs.Plain.{IsPlain}
 use Rattle.pth_transcript.specs.Reading.{IsPlainPart, part_line}
-use Rattle.pth_transcript.specs.Taking.{IsStarted, Takes, ahead, is_file}
+use Rattle.pth_filter.specs.Objects.{is_file}
+use Rattle.pth_transcript.specs.Taking.{IsStarted, Takes, ahead}
 use Rattle.pth_transcript.specs.Transcript.{marks_of, told_lines}
-use Rattle.pth_transcript.specs.declared.fault.Fault.{Fault}
-use Rattle.pth_transcript.specs.declared.fault.Fault.TheVariants as fault
+use Rattle.pth_print.specs.declared.fault_line.Fault.{Fault}
+use Rattle.pth_print.specs.declared.fault_line.Fault.TheVariants as fault
+use Rattle.pth_print.specs.declared.fault_line.Flaw.TheVariants.{NoTranscript}
 use Rattle.pth_transcript.specs.declared.reader.Part.{Part}
 use Rattle.pth_transcript.specs.declared.told.Told.{Told}
 
@@ -58,7 +60,7 @@ pub record Steps (before after : Session) (is_started : Bool) : Type 0 where
 -- what a content comes to if it is read and judged: a verdict, or a fault
 abbrev pub ComesTo : Option (List ℕ) → Result Verdict Fault → Type 0
 ComesTo content (Ok verdict) = HoldsVerdict content verdict
-ComesTo content (Err (fault.NoTranscript line)) = HoldsUpTo content line
+ComesTo content (Err (fault.Input line why)) = HoldsUpTo content line × (why ≡ NoTranscript)
 ComesTo content (Err fault.ReadFault) = Unit {0}
 ComesTo content (Err fault.OutOfMemory) = Unit {0}
 ComesTo content (Err fault.Words) = ⊥

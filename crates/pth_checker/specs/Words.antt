@@ -2,8 +2,8 @@
 use Rattle.std.specs.Prelude.{◌≡◌, true, List, [], ◌∷◌, Option, Some, None, Result, Ok, Err, codes, option_map}
 use Rattle.std.specs.Borrow.{Bor}
 use Rattle.clap.specs.Words.{App, Kinds, Rule, Text, fault_of, first_of, matches_of, new_app, new_rule, with_rule}
-use Rattle.pth_transcript.specs.declared.fault.Fault.{Fault}
-use Rattle.pth_transcript.specs.declared.fault.Fault.TheVariants as fault
+use Rattle.pth_print.specs.declared.fault_line.Fault.{Fault}
+use Rattle.pth_print.specs.declared.fault_line.Fault.TheVariants as fault
 
 -- ---- the command
 

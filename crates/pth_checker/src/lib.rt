@@ -1,10 +1,9 @@
 //! Whether a transcript is lawful, and where it is not: the checker as one call, over the objects that it is handed.
 //!
-//! With status 0 and 1 `check` has written exactly the line of a verdict that holds of the whole content (`IsVerdict`): it is the text
-//! of lawful marks and of an ending that fits them, or this line of it is the first that breaks a law, and the lines before it break none.
-//! With 3 nothing is wrong before the line that it tells. It comes to 4 or 5 only if the object read or the output failed. No clause keeps
-//! it from 7, which says that memory ran out. `specs/Check.antt` says fact by fact what holds by the status. If an object tells no bytes,
-//! nothing is said of them.
+//! `check` is a filter (`pth_filter`): with status 0 and 1 it has written exactly the line of a verdict that holds of the whole content
+//! (`IsVerdict`): it is the text of lawful marks and of an ending that fits them, or this line of it is the first that breaks a law, and the
+//! lines before it break none. With 3 nothing is wrong before the line that it tells. No clause keeps it from 7, which says that memory ran
+//! out. If an object tells no bytes, nothing is said of them.
 #![tactic(auto)]
 
 mod help;

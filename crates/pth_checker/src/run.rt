@@ -1,7 +1,7 @@
 //! The words, the verdict and its line.
 
-ghost use Rattle.std.specs.Prelude.{◌≡◌, map, string_bytes};
-ghost use Rattle.pth_checker.specs.Check.{CountsRead, OthersStay, Ran, RanFor};
+ghost use Rattle.std.specs.Prelude.{Some, map, string_bytes};
+ghost use Rattle.pth_checker.specs.Check.{check};
 ghost use Rattle.pth_checker.specs.Session.{ComesTo};
 ghost use Rattle.pth_checker.specs.VerdictLines.{verdict_line};
 ghost use Rattle.pth_checker.specs.Words.{asked_by, name_of};
@@ -9,17 +9,19 @@ ghost use Rattle.pth_streams.specs.Inputs.{inputs};
 ghost use Rattle.pth_streams.specs.Pieces.{WritesPiece, received};
 ghost use Rattle.pth_streams.specs.Scene.{scene};
 ghost use Rattle.pth_transcript.specs.Reading.{CountsFault};
-ghost use Rattle.pth_transcript.specs.Taking.{OtherStays, content_under, is_file, of_read};
+ghost use Rattle.pth_filter.specs.Answers.{Ran, object_for};
+ghost use Rattle.pth_filter.specs.Objects.{OtherStays, OthersStay, content_under, is_file, of_read};
 
 use crate::session::Session;
 use crate::verdict::Verdict;
 use crate::words::read_words;
+use pth_filter::faults::fault_of_write;
+use pth_print::fault_line::Fault;
 use pth_streams::files::Files;
 use pth_streams::sink::{Sink, SinkErr};
 use pth_streams::source::Source;
 use pth_streams::write_all::write_all;
 use pth_text::text::Text;
-use pth_transcript::fault::Fault;
 use std::alloc::Global;
 
 // The verdict on what stands under a name.
@@ -49,15 +51,15 @@ fn write_verdict<O: Sink>(alloc: Global, verdict: &Verdict, out: &mut O) -> Resu
     write_all(out, text.as_slice())
 }
 
-// The verdict on what stands under a name, written.
+// The verdict on what stands under a name, written. The answer is its status.
 fn run_for<S: Source, F: Files, O: Sink>(
     alloc: Global,
     name: Option<&str>,
     input: &mut S,
     files: &mut F,
     out: &mut O,
-) -> Result<Verdict, Fault>
-    ensures ran { RanFor (name_of name.entry)
+) -> Result<u8, Fault>
+    ensures ran { Ran check (Some (name_of name.entry))
         (scene (inputs (S.left input.old) (S.faults input.old)
         (F.left files.old) (F.held files.old) (F.faults files.old))
         (received (O.written out.old) (O.faults out.old)))
@@ -65,15 +67,12 @@ fn run_for<S: Source, F: Files, O: Sink>(
         (F.left files.new) (F.held files.new) (F.faults files.new))
         (received (O.written out.new) (O.faults out.new)))
         result }
-    ensures counts { CountsFault (of_read (is_file (name_of name.entry)) (S.faults input.old) (F.faults files.old))
-        (of_read (is_file (name_of name.entry)) (S.faults input.new) (F.faults files.new)) result }
     ensures other { OtherStays (is_file (name_of name.entry)) input.old input.new files.old files.new }
 {
     let verdict = judged(alloc, name, input, files)?;
     match write_verdict(alloc, &verdict, out) {
-        Ok(()) => Ok(verdict),
-        Err(SinkErr::Failed) => Err(Fault::WriteFault),
-        Err(SinkErr::OutOfMemory) => Err(Fault::OutOfMemory),
+        Ok(()) => Ok(verdict.status()),
+        Err(e) => Err(fault_of_write(e)),
     }
 }
 
@@ -84,8 +83,8 @@ pub(crate) fn run<S: Source, F: Files, O: Sink>(
     input: &mut S,
     files: &mut F,
     out: &mut O,
-) -> Result<Verdict, Fault>
-    ensures ran { Ran (asked_by (map string_bytes words.now.items))
+) -> Result<u8, Fault>
+    ensures ran { Ran check (asked_by (map string_bytes words.now.items))
         (scene (inputs (S.left input.old) (S.faults input.old)
         (F.left files.old) (F.held files.old) (F.faults files.old))
         (received (O.written out.old) (O.faults out.old)))
@@ -93,10 +92,8 @@ pub(crate) fn run<S: Source, F: Files, O: Sink>(
         (F.left files.new) (F.held files.new) (F.faults files.new))
         (received (O.written out.new) (O.faults out.new)))
         result }
-    ensures counts { CountsRead (asked_by (map string_bytes words.now.items))
-        (inputs (S.left input.old) (S.faults input.old) (F.left files.old) (F.held files.old) (F.faults files.old))
-        (inputs (S.left input.new) (S.faults input.new) (F.left files.new) (F.held files.new) (F.faults files.new)) result }
-    ensures others { OthersStay (asked_by (map string_bytes words.now.items)) input.old input.new files.old files.new }
+    ensures others { OthersStay (object_for check (asked_by (map string_bytes words.now.items)))
+        input.old input.new files.old files.new }
 {
     let name = read_words(alloc, words)?;
     run_for(alloc, name, input, files, out)

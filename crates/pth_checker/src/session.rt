@@ -4,16 +4,17 @@ ghost use Rattle.std.specs.Prelude.{◌≡◌, ◌⊎◌, ◌<◌, ◌^◌, ℕ,
 ghost use Rattle.pth_checker.specs.Session.{ComesTo, GoesOn, HasHeard, HasJudged, HasRead, IsWhole, Steps};
 ghost use Rattle.pth_checker.specs.Words.{name_of};
 ghost use Rattle.pth_transcript.specs.Reading.{CountsFault};
-ghost use Rattle.pth_transcript.specs.Taking.{IsStarted, OtherStays, is_file, of_read};
+ghost use Rattle.pth_filter.specs.Objects.{OtherStays, is_file, of_read};
+ghost use Rattle.pth_transcript.specs.Taking.{IsStarted};
 ghost use Rattle.pth_transcript.specs.declared.reader.Part.TheVariants as part;
 ghost use Rattle.pth_transcript.specs.declared.told.Told.{Told as ToldOf};
 
 use crate::judge::Judge;
 use crate::verdict::{Law, Verdict};
+use pth_print::fault_line::{Fault, Flaw};
 use pth_streams::files::Files;
 use pth_streams::source::Source;
 use pth_transcript::ending::Ending;
-use pth_transcript::fault::Fault;
 use pth_transcript::reader::{Part, Reader};
 use pth_transcript::told::Told;
 use std::alloc::Global;
@@ -97,8 +98,9 @@ impl Session {
         if self.reader.is_over(input, files)? {
             Ok(Verdict::Lawful { lines: line })
         } else {
-            Err(Fault::NoTranscript {
+            Err(Fault::Input {
                 line: line.saturating_add(1),
+                flaw: Flaw::NoTranscript,
             })
         }
     }

@@ -1,41 +1,30 @@
 //! The top call.
 
-ghost use Rattle.std.specs.Prelude.{◌≤◌, map, string_bytes};
-ghost use Rattle.pth_checker.specs.Check.{Checks, Ends, OthersStay, ReadsWell};
+ghost use Rattle.std.specs.Prelude.{map, string_bytes};
+ghost use Rattle.pth_checker.specs.Check.{check};
 ghost use Rattle.pth_checker.specs.Words.{asked_by};
+ghost use Rattle.pth_filter.specs.Answers.{Answers, object_for};
+ghost use Rattle.pth_filter.specs.Objects.{OthersStay};
 ghost use Rattle.pth_streams.specs.Inputs.{inputs};
 ghost use Rattle.pth_streams.specs.Pieces.{received};
 ghost use Rattle.pth_streams.specs.Scene.{scene};
 
 use crate::run::run;
-use crate::verdict::Verdict;
+use pth_filter::finish::finish;
 use pth_streams::files::Files;
 use pth_streams::sink::Sink;
 use pth_streams::source::Source;
-use pth_transcript::fault::{Fault, report_fault};
 use std::alloc::Global;
 
 /// The name of the program, as the lines of its faults tell it.
 pub const PROGRAM: &str = "pth_check";
-
-// The status of what was done, with the line of a fault on `err`.
-fn finish<E: Sink>(alloc: Global, ran: Result<Verdict, Fault>, err: &mut E) -> u8
-    ensures { Ends ran result
-        (received (E.written err.old) (E.faults err.old))
-        (received (E.written err.new) (E.faults err.new)) }
-{
-    match ran {
-        Ok(verdict) => verdict.status(),
-        Err(fault) => report_fault(alloc, PROGRAM, fault, err),
-    }
-}
 
 /// All that the program does, over the objects that are handed in: `words` are those after the program's name, `[FILE]`, and the
 /// result is the exit status. What stands under FILE is a transcript, read from `input` if the words give no name or `-`.
 ///
 /// The line of a verdict is written to `out`, and that of a fault to `err`: `lawful N` (0) if the transcript is lawful and has N lines;
 /// `line N: in time`, `orderly`, `exclusive`, `in order` or `ending` (1) if line N is the first that is wrong, and breaks this law; and the
-/// faults of `Fault` with their statuses. `Checks` says what holds by the status, fact by fact.
+/// faults of `Fault` with their statuses. `IsOutput` says what the output is, and `Answers` what holds by the status, fact by fact.
 pub fn check<S: Source, F: Files, O: Sink, E: Sink>(
     alloc: Global,
     words: &Vec<String>,
@@ -44,13 +33,10 @@ pub fn check<S: Source, F: Files, O: Sink, E: Sink>(
     out: &mut O,
     err: &mut E,
 ) -> u8
-    ensures status { result ≤ 7 }
-    ensures others { OthersStay (asked_by (map string_bytes words.now.items)) input.old input.new files.old files.new }
-    ensures reads_well { ReadsWell (asked_by (map string_bytes words.now.items)) result
-        (inputs (S.left input.old) (S.faults input.old) (F.left files.old) (F.held files.old) (F.faults files.old))
-        (inputs (S.left input.new) (S.faults input.new) (F.left files.new) (F.held files.new) (F.faults files.new)) }
-    ensures checks { Checks (record {
-      asked = asked_by (map string_bytes words.now.items);
+    ensures others { OthersStay (object_for check (asked_by (map string_bytes words.now.items)))
+        input.old input.new files.old files.new }
+    ensures answers { Answers check (record {
+      words = map string_bytes words.now.items;
       old = scene (inputs (S.left input.old) (S.faults input.old)
           (F.left files.old) (F.held files.old) (F.faults files.old))
           (received (O.written out.old) (O.faults out.old));
@@ -63,5 +49,5 @@ pub fn check<S: Source, F: Files, O: Sink, E: Sink>(
     }) }
 {
     let ran = run(alloc, words, input, files, out);
-    finish(alloc, ran, err)
+    finish(alloc, PROGRAM, ran, err)
 }

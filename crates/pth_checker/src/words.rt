@@ -6,7 +6,7 @@ ghost use Rattle.pth_checker.specs.Words.{Names, asked_by, bare, checker, file_r
 
 use clap::error::ErrorKind;
 use clap::{Arg, Command};
-use pth_transcript::fault::Fault;
+use pth_print::fault_line::Fault;
 use std::alloc::{AllocError, Global};
 
 // The command before it has operands.

@@ -10,8 +10,8 @@ use Rattle.pth_transcript.specs.Reading.{ComesTo, IsPlainPart, next_line, part_l
 use Rattle.pth_transcript.specs.Taking.{Ahead, IsOver, Takes, ahead}
 use Rattle.pth_transcript.specs.Transcript.{ending_line, marks_of, told_line, told_lines}
 use Rattle.pth_transcript.specs.declared.ending.Ending.{Ending}
-use Rattle.pth_transcript.specs.declared.fault.Fault.{Fault}
-use Rattle.pth_transcript.specs.declared.fault.Fault.TheVariants as fault
+use Rattle.pth_print.specs.declared.fault_line.Fault.{Fault}
+use Rattle.pth_print.specs.declared.fault_line.Fault.TheVariants as fault
 use Rattle.pth_transcript.specs.declared.reader.Part.{Part}
 use Rattle.pth_transcript.specs.declared.reader.Part.TheVariants as part
 use Rattle.pth_transcript.specs.declared.told.Told.{Told}
@@ -63,9 +63,9 @@ module _ (from turns : ℕ) (a b c : Ahead) (n m : ℕ) where
 -- the reader came to a fault behind this text
 stopped : (content : Option (List ℕ)) (c : Ahead) (text : List ℕ) (n : ℕ) (f : Fault) → Takes (ahead [] content) c text → ComesTo n f
     → ((bytes rest : List ℕ) (line : ℕ) → bytes ≡ text ++ rest → line ≡ next_line n → GoesOnAt bytes line) → StopsAt content f
-stopped content c text n (fault.NoTranscript line) takes comes goes_on =
+stopped content c text n (fault.Input line why) takes comes goes_on =
     let begun = front content c text takes in
-    record { bytes = begun.0; held = begun.2; goes_on = goes_on begun.0 begun.1 line begun.3 comes }
+    (record { bytes = begun.0; held = begun.2; goes_on = goes_on begun.0 begun.1 line begun.3 comes.0 }, comes.1)
 stopped content c text n fault.ReadFault takes comes goes_on = tt
 stopped content c text n fault.OutOfMemory takes comes goes_on = tt
 stopped content c text n fault.Words takes comes goes_on = absurd comes

@@ -1,6 +1,5 @@
 pub mod Along
 pub mod Charted
-pub mod Clauses
 pub mod Columns
 pub mod DrawnThreads
 pub mod DrawnTurns
@@ -14,6 +13,7 @@ pub mod Parsed
 pub mod PlacesOf
 pub mod Results
 pub mod RisingLanes
+pub mod Running
 pub mod Standing
 pub mod Started
 pub mod Tiles

@@ -1,6 +1,7 @@
 -- The object that is read, and the other one.
 use Rattle.std.proofs.Common.{◌≡◌, ◌∙◌, ℕ, Bool, true, false, List, Option, refl, subst}
-use Rattle.pth_transcript.specs.Taking.{IsOver, OtherStays, Takes, ahead, of_read}
+use Rattle.pth_filter.specs.Objects.{OtherStays, of_read}
+use Rattle.pth_transcript.specs.Taking.{IsOver, Takes, ahead}
 
 -- nothing was called
 pub others_none : {S F : Type 0} (of_file : Bool) (input : S) (files : F) → OtherStays of_file input input files files

@@ -1,7 +1,7 @@
 -- Results.
 use Rattle.std.proofs.Common.{◌≡◌, ℕ, List, Option, Result, Ok, Err, IfErr, IsErrAnd, subst, sym}
 use Rattle.pth_base.specs.declared.mark.Mark.{Mark}
-use Rattle.pth_transcript.specs.declared.fault.Fault.{Fault}
+use Rattle.pth_print.specs.declared.fault_line.Fault.{Fault}
 use Rattle.pth_drawing.specs.Draw.{Makes, StopsAt}
 
 -- what is known of an error goes on to what a `?` answers

@@ -5,8 +5,8 @@ use Rattle.clap.specs.declared.builder.value_parser.ValueParser.TheVariants as p
 use Rattle.pth_command.specs.CommandLine.{number_under}
 use Rattle.pth_drawing.specs.Bounds.{most_columns}
 use Rattle.pth_drawing.specs.declared.words.Choice.{Choice}
-use Rattle.pth_transcript.specs.declared.fault.Fault.{Fault}
-use Rattle.pth_transcript.specs.declared.fault.Fault.TheVariants as fault
+use Rattle.pth_print.specs.declared.fault_line.Fault.{Fault}
+use Rattle.pth_print.specs.declared.fault_line.Fault.TheVariants as fault
 
 -- ---- the command
 

@@ -5,10 +5,12 @@ ghost use Rattle.pth_streams.specs.Inputs.{inputs};
 ghost use Rattle.pth_streams.specs.Pieces.{received};
 ghost use Rattle.pth_streams.specs.Scene.{scene};
 ghost use Rattle.pth_transcript.specs.Reading.{ComesTo, CountsFault};
-ghost use Rattle.pth_transcript.specs.Taking.{IsOver, IsStarted, OtherStays, ahead, of_read};
+ghost use Rattle.pth_filter.specs.Answers.{Ran, object_for};
+ghost use Rattle.pth_filter.specs.Objects.{OtherStays, OthersStay, content_under, faults_under, is_file, of_read};
+ghost use Rattle.pth_transcript.specs.Taking.{IsOver, IsStarted, ahead};
 ghost use Rattle.pth_drawing.specs.Bounds.{most_columns};
 ghost use Rattle.pth_drawing.specs.Charts.{chart_seen};
-ghost use Rattle.pth_drawing.specs.Draw.{Makes, OthersStay, Ran, StopsAt, content_of, faults_of, picture};
+ghost use Rattle.pth_drawing.specs.Draw.{Makes, StopsAt, draw, picture};
 ghost use Rattle.pth_drawing.specs.Drawing.{chart};
 ghost use Rattle.pth_drawing.specs.Taken.{HasDrawn};
 ghost use Rattle.pth_drawing.specs.Words.{asked_by, asked_of};
@@ -18,12 +20,13 @@ use crate::drawing::Drawing;
 use crate::svg::add_picture;
 use crate::words::{Choice, read_words};
 use pth_base::memory::OutOfMemory;
+use pth_filter::faults::fault_of_write;
+use pth_print::fault_line::{Fault, Flaw};
 use pth_streams::files::Files;
-use pth_streams::sink::{Sink, SinkErr};
+use pth_streams::sink::Sink;
 use pth_streams::source::{Failed, Source};
 use pth_streams::write_all::write_all;
 use pth_text::text::Text;
-use pth_transcript::fault::Fault;
 use pth_transcript::reader::{Part, Reader};
 use std::alloc::Global;
 
@@ -62,7 +65,7 @@ fn draw_marks<S: Source, F: Files>(
 }
 
 // Nothing comes behind the line of the ending.
-fn finish<S: Source, F: Files>(
+fn expect_end<S: Source, F: Files>(
     reader: &mut Reader,
     input: &mut S,
     files: &mut F,
@@ -80,8 +83,9 @@ fn finish<S: Source, F: Files>(
     if reader.is_over(input, files)? {
         return Ok(());
     }
-    Err(Fault::NoTranscript {
+    Err(Fault::Input {
         line: reader.lines().saturating_add(1),
+        flaw: Flaw::NoTranscript,
     })
 }
 
@@ -103,7 +107,7 @@ fn chart_of<S: Source, F: Files>(
     ensures other { OtherStays reader.old.of_file input.old input.new files.old files.new }
 {
     let drawing = draw_marks(alloc, choice, reader, input, files)?;
-    finish(reader, input, files)?;
+    expect_end(reader, input, files)?;
     match drawing.chart() {
         Ok(chart) => Ok(chart),
         Err(OutOfMemory) => Err(Fault::OutOfMemory),
@@ -118,17 +122,17 @@ fn read_chart<S: Source, F: Files>(
     files: &mut F,
 ) -> Result<Chart, Fault>
     ensures made { Makes (λ marks c. chart_seen c ≡ chart choice.now.from choice.now.turns marks)
-        (content_of (asked_of choice.now)
+        (content_under (asked_of choice.now).file
         (inputs (S.left input.old) (S.faults input.old)
         (F.left files.old) (F.held files.old) (F.faults files.old))) result }
     ensures counts { CountsFault
-        (faults_of (asked_of choice.now)
+        (faults_under (asked_of choice.now).file
         (inputs (S.left input.old) (S.faults input.old)
         (F.left files.old) (F.held files.old) (F.faults files.old)))
-        (faults_of (asked_of choice.now)
+        (faults_under (asked_of choice.now).file
         (inputs (S.left input.new) (S.faults input.new)
         (F.left files.new) (F.held files.new) (F.faults files.new))) result }
-    ensures other { OthersStay (Some (asked_of choice.now))
+    ensures other { OtherStays (is_file (asked_of choice.now).file)
         input.old input.new files.old files.new }
 {
     match Reader::open(alloc, choice.file, files) {
@@ -146,17 +150,17 @@ fn read_picture<S: Source, F: Files>(
 ) -> Result<Text, Fault>
     requires few { choice.now.turns ≤ most_columns }
     ensures made { Makes (λ marks t. t ≡ picture choice.now.from choice.now.turns marks)
-        (content_of (asked_of choice.now)
+        (content_under (asked_of choice.now).file
         (inputs (S.left input.old) (S.faults input.old)
         (F.left files.old) (F.held files.old) (F.faults files.old))) result }
     ensures counts { CountsFault
-        (faults_of (asked_of choice.now)
+        (faults_under (asked_of choice.now).file
         (inputs (S.left input.old) (S.faults input.old)
         (F.left files.old) (F.held files.old) (F.faults files.old)))
-        (faults_of (asked_of choice.now)
+        (faults_under (asked_of choice.now).file
         (inputs (S.left input.new) (S.faults input.new)
         (F.left files.new) (F.held files.new) (F.faults files.new))) result }
-    ensures other { OthersStay (Some (asked_of choice.now))
+    ensures other { OtherStays (is_file (asked_of choice.now).file)
         input.old input.new files.old files.new }
 {
     let chart = read_chart(alloc, choice, input, files)?;
@@ -167,16 +171,16 @@ fn read_picture<S: Source, F: Files>(
     }
 }
 
-// Writes the picture that the words ask for.
+// Writes the picture that the words ask for. The answer is the status.
 fn write_picture<S: Source, F: Files, O: Sink>(
     alloc: Global,
     choice: &Choice<'_>,
     input: &mut S,
     files: &mut F,
     out: &mut O,
-) -> Result<(), Fault>
+) -> Result<u8, Fault>
     requires few { choice.now.turns ≤ most_columns }
-    ensures ran { Ran (Some (asked_of choice.now))
+    ensures ran { Ran draw (Some (asked_of choice.now))
         (scene (inputs (S.left input.old) (S.faults input.old)
         (F.left files.old) (F.held files.old) (F.faults files.old))
         (received (O.written out.old) (O.faults out.old)))
@@ -184,14 +188,13 @@ fn write_picture<S: Source, F: Files, O: Sink>(
         (F.left files.new) (F.held files.new) (F.faults files.new))
         (received (O.written out.new) (O.faults out.new)))
         result }
-    ensures others { OthersStay (Some (asked_of choice.now))
+    ensures other { OtherStays (is_file (asked_of choice.now).file)
         input.old input.new files.old files.new }
 {
     let text = read_picture(alloc, choice, input, files)?;
     match write_all(out, text.as_slice()) {
-        Ok(()) => Ok(()),
-        Err(SinkErr::Failed) => Err(Fault::WriteFault),
-        Err(SinkErr::OutOfMemory) => Err(Fault::OutOfMemory),
+        Ok(()) => Ok(0),
+        Err(e) => Err(fault_of_write(e)),
     }
 }
 
@@ -202,8 +205,8 @@ pub(crate) fn run<S: Source, F: Files, O: Sink>(
     input: &mut S,
     files: &mut F,
     out: &mut O,
-) -> Result<(), Fault>
-    ensures ran { Ran (asked_by (map string_bytes words.now.items))
+) -> Result<u8, Fault>
+    ensures ran { Ran draw (asked_by (map string_bytes words.now.items))
         (scene (inputs (S.left input.old) (S.faults input.old)
         (F.left files.old) (F.held files.old) (F.faults files.old))
         (received (O.written out.old) (O.faults out.old)))
@@ -211,7 +214,7 @@ pub(crate) fn run<S: Source, F: Files, O: Sink>(
         (F.left files.new) (F.held files.new) (F.faults files.new))
         (received (O.written out.new) (O.faults out.new)))
         result }
-    ensures others { OthersStay (asked_by (map string_bytes words.now.items))
+    ensures others { OthersStay (object_for draw (asked_by (map string_bytes words.now.items)))
         input.old input.new files.old files.new }
 {
     let choice = read_words(alloc, words)?;

@@ -7,7 +7,7 @@ ghost use Rattle.pth_drawing.specs.Words.{Chooses, agreed, asked_by, asked_in, a
 
 use clap::error::ErrorKind;
 use clap::{Arg, ArgMatches, Command, value_parser};
-use pth_transcript::fault::Fault;
+use pth_print::fault_line::Fault;
 use std::alloc::{AllocError, Global};
 
 /// How many turns are drawn at most.

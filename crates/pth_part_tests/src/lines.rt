@@ -146,7 +146,7 @@ const DISPATCH: Mark = Mark::Dispatch {
 /// Adds the lines of an audit and of want of memory.
 fn add_others(text: &mut Text) -> Result<(), OutOfMemory> {
     mark_line(&DISPATCH, true, text)?;
-    fault_line(&Fault::OutOfMemory, text)
+    fault_line("pth_play", Fault::OutOfMemory, text)
 }
 
 const OTHERS: &str =

@@ -1,27 +1,23 @@
 //! The program: the words and the real objects are handed to the player, and its status is the exit status.
 #![tactic(auto)]
 
-use pth_player::{play, report_fault};
-use pth_print::fault_line::Fault;
-use pth_streams::arguments::{ArgumentsErr, arguments};
+use pth_filter::faults::fault_of_words;
+use pth_filter::finish::report_fault;
+use pth_player::{PROGRAM, play};
+use pth_streams::arguments::arguments;
 use pth_streams::open_files::OpenFiles;
 use pth_streams::reading::Reading;
 use pth_streams::writing::Writing;
 use std::process::ExitCode;
 
-// The fault of words that were not read.
-fn fault_of(e: ArgumentsErr) -> Fault {
-    match e {
-        ArgumentsErr::NotUtf8 => Fault::Words,
-        ArgumentsErr::OutOfMemory => Fault::OutOfMemory,
-    }
-}
-
 fn main(rt: HostRuntime) -> ExitCode {
     let mut err = Writing::new(rt.stderr());
     let words = match arguments(&rt) {
         Ok(words) => words,
-        Err(e) => return ExitCode::from(report_fault(rt.alloc(), fault_of(e), &mut err)),
+        Err(e) => {
+            let status = report_fault(rt.alloc(), PROGRAM, fault_of_words(e), &mut err);
+            return ExitCode::from(status);
+        }
     };
     let mut input = Reading::new(rt.stdin());
     let mut files = OpenFiles::new(&rt);

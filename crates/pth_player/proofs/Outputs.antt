@@ -6,13 +6,15 @@ use Rattle.pth_model.specs.State.{Given}
 use Rattle.pth_model.specs.Run.{run, stops_at}
 use Rattle.pth_model.proofs.Runs.{goes-once}
 use Rattle.pth_print.specs.declared.fault_line.Fault.TheVariants as fault
+use Rattle.pth_print.specs.declared.fault_line.Flaw.TheVariants.{Breaks}
 use Rattle.pth_line.specs.Script.{Sections, functions_of}
 use Rattle.pth_script.specs.Broken.{IsAccepted, IsRefusal}
 use Rattle.pth_text.specs.declared.rule.Breach.{Breach}
 use Rattle.pth_sched.proofs.Stopping.{run_stops}
 use Rattle.pth_script.proofs.Whole.{accepted_or_refused, script_of}
 use Rattle.pth_script.proofs.Once.{not_both, one_script, one_kernel, one_top, same_breach, same_line}
-use Rattle.pth_player.specs.Output.{Output, IsRunOutput, IsScriptOutput, IsTheOutput, IsTheScript, refusal, told_output, upgrade_output}
+use Rattle.pth_filter.specs.Output.{Output, refusal}
+use Rattle.pth_player.specs.Output.{IsRunOutput, IsScriptOutput, IsTheOutput, IsTheScript, program, told_output, upgrade_output}
 use Rattle.pth_command.specs.CommandLine.{Asked}
 use Rattle.pth_player.specs.Objects.{cut}
 
@@ -30,16 +32,16 @@ no_fault asked text out (inl i) = ap (λ (o : Output). o.fault) i.3.2
 no_fault asked text out (inr u) = ap (λ (o : Output). o.fault) u.2
 
 -- that of words that are refused
-pub words_output : (bytes : List ℕ) → IsTheOutput None bytes (refusal fault.Words)
+pub words_output : (bytes : List ℕ) → IsTheOutput None bytes (refusal program fault.Words)
 words_output bytes = (refl, λ other o. o)
 
 -- that of an input that is no script
-pub refused_output : (asked : Asked) (bytes : List ℕ) (line : ℕ) (b : Breach) → IsRefusal (cut bytes) line b → IsTheOutput (Some asked) bytes (refusal (fault.Input line b))
+pub refused_output : (asked : Asked) (bytes : List ℕ) (line : ℕ) (b : Breach) → IsRefusal (cut bytes) line b → IsTheOutput (Some asked) bytes (refusal program (fault.Input line (Breaks b)))
 refused_output asked bytes line b refused = (
   inr (line, b, refused, refl),
   λ other o. elim o [
     | inl i ↦ absurd (not_both (cut bytes) line b (script_accepted asked (cut bytes) other i) refused)
-    | inr k ↦ k.3 ∙ (λ i. refusal (fault.Input (same_line (cut bytes) k.0 line k.1 b k.2 refused i) (same_breach (cut bytes) k.0 line k.1 b k.2 refused i)))
+    | inr k ↦ k.3 ∙ (λ i. refusal program (fault.Input (same_line (cut bytes) k.0 line k.1 b k.2 refused i) (Breaks (same_breach (cut bytes) k.0 line k.1 b k.2 refused i))))
   ],
 )
 
@@ -82,8 +84,8 @@ script_output_of asked text accepted = elim (cases_Bool asked.upgrade) [
 
 -- each input has one
 pub output_of : (asked : Option Asked) (bytes : List ℕ) → (out : Output) × IsTheOutput asked bytes out
-output_of None bytes = (refusal fault.Words, words_output bytes)
+output_of None bytes = (refusal program fault.Words, words_output bytes)
 output_of (Some asked) bytes = elim (accepted_or_refused (cut bytes)) [
   | inl accepted ↦ let out = script_output_of asked (cut bytes) accepted in (out.0, script_output asked bytes out.0 out.1)
-  | inr refused ↦ (refusal (fault.Input refused.0 refused.1), refused_output asked bytes refused.0 refused.1 refused.2)
+  | inr refused ↦ (refusal program (fault.Input refused.0 (Breaks refused.1)), refused_output asked bytes refused.0 refused.1 refused.2)
 ]

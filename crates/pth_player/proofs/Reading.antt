@@ -13,16 +13,18 @@ use Rattle.pth_line.specs.Script.{Sections}
 use Rattle.pth_script.specs.Follows.{IsReadAs, IsRefusedAs}
 use Rattle.pth_script.specs.Upgrade.{IsUpgrade, IsUpgradedAs}
 use Rattle.pth_text.specs.declared.rule.Breach.TheVariants.{Limit, Of}
-use Rattle.pth_player.specs.FaultsOfErrors.{fault_of_read, fault_of_script}
+use Rattle.pth_filter.specs.Faults.{fault_of_read}
+use Rattle.pth_filter.specs.Objects.{Object, Stands, is_file, made, named, nothing, of_read}
+use Rattle.pth_player.specs.FaultsOfErrors.{fault_of_script}
 use Rattle.pth_streams.specs.Inputs.{AreHeld, Inputs}
-use Rattle.pth_player.specs.Objects.{LosesRead, Object, ObjectCounts, ObjectRead, ObjectStood, cut, nothing, object_named, object_of, the_file, the_input, the_workload}
+use Rattle.pth_player.specs.Objects.{LosesRead, ObjectCounts, ObjectRead, cut, object_of}
 use Rattle.pth_script.specs.Broken.{IsRefusal}
 use Rattle.pth_command.specs.CommandLine.{IsWorkload}
 use Rattle.pth_script.specs.Generated.{generated}
 use Rattle.pth_script.specs.Limits.{text_limit}
 use Rattle.pth_script.proofs.Generating.{generated_short}
 use Rattle.pth_player.specs.Play.{IsRead, ReadsBytes, ReadsText}
-use Rattle.pth_streams.specs.Faults.{CountsRead}
+use Rattle.pth_streams.specs.Faults.{CountsRead, Rose}
 use Rattle.pth_player.specs.Streams.{TakesUpTo}
 use Rattle.pth_streams.specs.declared.source.ReadFault.{ReadFault}
 use Rattle.pth_streams.specs.declared.source.ReadFault.TheVariants as read
@@ -66,61 +68,75 @@ unfolding text_limit
 held_is None new bytes t = (bytes, tt, sym (take_all 16777217 bytes t.bound))
 held_is (Some xs) new bytes t = (xs, refl, (takes_is 16777217 (Some xs) new bytes t).0)
 
--- the bytes that were read of the input, and of a file
-pub input_bytes : (r : Result (Vec ℕ Global) ReadFault) (ins later : Inputs) → IfOk r (λ v. TakesUpTo 16777217 ins.left later.left v.items) → CountsRead ins.faults later.faults r
-    → IfOk r (λ v. ReadsBytes the_input ins later v.items)
-input_bytes (Ok v) ins later t stood = ((loses ins.left later.left v.items t, stood), held_is ins.left later.left v.items t)
-input_bytes (Err e) ins later t stood = tt
+-- what was read of what stands under a name, by whether it is `-`
+abbrev Read : Bool → List ℕ → Inputs → Inputs → List ℕ → Type 0
+Read is_input name ins later bytes =
+    (LosesRead (if is_input then ins.left else ins.held name) (if not is_input then later.file_left else later.left)
+    × ((if not is_input then later.file_faults else later.faults) ≡ (if not is_input then ins.file_faults else ins.faults)))
+    × ((held : List ℕ) × AreHeld (if is_input then ins.left else ins.held name) held × (bytes ≡ cut held))
 
-pub file_bytes : (r : Result (Vec ℕ Global) ReadFault) (ins later : Inputs) (name : List ℕ) → IfOk r (λ v. TakesUpTo 16777217 (ins.held name) later.file_left v.items)
-    → CountsRead ins.file_faults later.file_faults r → IfOk r (λ v. ReadsBytes (the_file name) ins later v.items)
-file_bytes (Ok v) ins later name t stood = ((loses (ins.held name) later.file_left v.items t, stood), held_is (ins.held name) later.file_left v.items t)
-file_bytes (Err e) ins later name t stood = tt
+-- the bytes that were read of the input, and of a file
+pub input_bytes : (r : Result (Vec ℕ Global) ReadFault) (ins later : Inputs) (name : Option (List ℕ)) → is_file name ≡ false
+    → IfOk r (λ v. TakesUpTo 16777217 ins.left later.left v.items) → CountsRead ins.faults later.faults r
+    → IfOk r (λ v. ReadsBytes (named name) ins later v.items)
+input_bytes (Ok v) ins later None is t stood = ((loses ins.left later.left v.items t, stood), held_is ins.left later.left v.items t)
+input_bytes (Ok v) ins later (Some n) is t stood =
+    subst (λ b. Read b n ins later v.items) (sym (not-false _ is)) ((loses ins.left later.left v.items t, stood), held_is ins.left later.left v.items t)
+input_bytes (Err e) ins later name is t stood = tt
+
+pub file_bytes : (r : Result (Vec ℕ Global) ReadFault) (ins later : Inputs) (n : List ℕ) → not (bytes_eq n (codes "-")) ≡ true
+    → IfOk r (λ v. TakesUpTo 16777217 (ins.held n) later.file_left v.items) → CountsRead ins.file_faults later.file_faults r
+    → IfOk r (λ v. ReadsBytes (named (Some n)) ins later v.items)
+file_bytes (Ok v) ins later n is t stood =
+    subst (λ b. Read b n ins later v.items) (sym (not-true _ is)) ((loses (ins.held n) later.file_left v.items t, stood), held_is (ins.held n) later.file_left v.items t)
+file_bytes (Err e) ins later n is t stood = tt
 
 -- the count of the object read is that of the input, or of the files
-pub input_counts : (r : Result (Vec ℕ Global) ReadFault) (ins later : Inputs) → CountsRead ins.faults later.faults r → ObjectCounts the_input ins later r
-input_counts (Ok v) ins later h = h
-input_counts (Err read.Failed) ins later h = h
-input_counts (Err read.OutOfMemory) ins later h = h
+pub input_counts : (r : Result (Vec ℕ Global) ReadFault) (ins later : Inputs) (name : Option (List ℕ)) → is_file name ≡ false
+    → CountsRead ins.faults later.faults r → ObjectCounts (named name) ins later r
+input_counts (Ok v) ins later name is h = subst (λ b. of_read b later.faults later.file_faults ≡ of_read b ins.faults ins.file_faults) (sym is) h
+input_counts (Err read.Failed) ins later name is h = subst (λ b. Rose (of_read b ins.faults ins.file_faults) (of_read b later.faults later.file_faults)) (sym is) h
+input_counts (Err read.OutOfMemory) ins later name is h = subst (λ b. of_read b later.faults later.file_faults ≡ of_read b ins.faults ins.file_faults) (sym is) h
 
-pub file_counts : (r : Result (Vec ℕ Global) ReadFault) (ins later : Inputs) (name : List ℕ) → CountsRead ins.file_faults later.file_faults r → ObjectCounts (the_file name) ins later r
-file_counts (Ok v) ins later name h = h
-file_counts (Err read.Failed) ins later name h = h
-file_counts (Err read.OutOfMemory) ins later name h = h
+pub file_counts : (r : Result (Vec ℕ Global) ReadFault) (ins later : Inputs) (name : Option (List ℕ)) → is_file name ≡ true
+    → CountsRead ins.file_faults later.file_faults r → ObjectCounts (named name) ins later r
+file_counts (Ok v) ins later name is h = subst (λ b. of_read b later.faults later.file_faults ≡ of_read b ins.faults ins.file_faults) (sym is) h
+file_counts (Err read.Failed) ins later name is h = subst (λ b. Rose (of_read b ins.faults ins.file_faults) (of_read b later.faults later.file_faults)) (sym is) h
+file_counts (Err read.OutOfMemory) ins later name is h = subst (λ b. of_read b later.faults later.file_faults ≡ of_read b ins.faults ins.file_faults) (sym is) h
 
 -- a read that follows one that did not fail
 pub counts_from : (a b c : ℕ) (r : Result (Vec ℕ Global) ReadFault) → b ≡ a → CountsRead b c r → CountsRead a c r
 counts_from a b c r e h = subst (λ (n : ℕ). CountsRead n c r) e h
 
 -- no read of an object failed that was read
-pub read_stood : (object : Object) (old new : Inputs) → ObjectRead object old new → ObjectStood object old new
+pub read_stood : (object : Object) (old new : Inputs) → ObjectRead object old new → Stands object old new
 read_stood nothing old new h = tt
-read_stood (the_workload threads) old new h = tt
-read_stood the_input old new h = h.1
-read_stood (the_file name) old new h = h.1
+read_stood (made text) old new h = tt
+read_stood (named name) old new h = h.1
 
--- the object that a word names
-pub names_file : (o : Option (Bor (List ℕ))) (name : Bor (List ℕ)) → o ≡ Some name → true ≡ not (bytes_eq name.now (codes "-")) → object_named (option_map (λ n. n.now) o) ≡ the_file name.now
-names_file o name is other = ap (λ (x : Option (Bor (List ℕ))). object_named (option_map (λ n. n.now) x)) is ∙ ap (λ (b : Bool). if b then the_input else the_file name.now) (not-true _ (sym other))
+-- the name of a word, if it is that of a file, or of the input
+pub named_so : (o : Option (Bor (List ℕ))) (name : Bor (List ℕ)) → o ≡ Some name → option_map (λ n. n.now) o ≡ Some name.now
+named_so o name is = ap (option_map (λ (n : Bor (List ℕ)). n.now)) is
 
-pub names_input : (o : Option (Bor (List ℕ))) (name : Bor (List ℕ)) → o ≡ Some name → false ≡ not (bytes_eq name.now (codes "-")) → object_named (option_map (λ n. n.now) o) ≡ the_input
-names_input o name is same = ap (λ (x : Option (Bor (List ℕ))). object_named (option_map (λ n. n.now) x)) is ∙ ap (λ (b : Bool). if b then the_input else the_file name.now) (not-false _ (sym same))
+pub names_input : (o : Option (Bor (List ℕ))) (name : Bor (List ℕ)) → o ≡ Some name → false ≡ not (bytes_eq name.now (codes "-"))
+    → is_file (option_map (λ n. n.now) o) ≡ false
+names_input o name is same = ap is_file (named_so o name is) ∙ sym same
 
-pub names_none : (o : Option (Bor (List ℕ))) → ((name : Bor (List ℕ)) → o ≡ Some name → ⊥) → object_named (option_map (λ n. n.now) o) ≡ the_input
+pub names_none : (o : Option (Bor (List ℕ))) → ((name : Bor (List ℕ)) → o ≡ Some name → ⊥) → is_file (option_map (λ n. n.now) o) ≡ false
 names_none None none = refl
 names_none (Some name) none = absurd (none name refl)
 
 -- a workload is made, and nothing is read for it
-pub named_object : (o : Option ℕ) (name : Option (List ℕ)) → ((threads : ℕ) → o ≡ Some threads → ⊥) → object_of o name ≡ object_named name
+pub named_object : (o : Option ℕ) (name : Option (List ℕ)) → ((threads : ℕ) → o ≡ Some threads → ⊥) → object_of o name ≡ named name
 named_object None name never = refl
 named_object (Some threads) name never = absurd (never threads refl)
 
 pub workload_bytes : (threads : ℕ) (o : Option ℕ) (name : Option (List ℕ)) (ins : Inputs) (bytes : List ℕ) → o ≡ Some threads → IfSome o IsWorkload → bytes ≡ generated threads
     → ReadsBytes (object_of o name) ins ins bytes
-workload_bytes threads o name ins bytes is some made =
+workload_bytes threads o name ins bytes is some same =
     let few = subst (λ o. IfSome o IsWorkload) is some in
     let whole : cut (generated threads) ≡ generated threads = take_all (text_limit + 1) (generated threads) (omega (arith, generated_short threads few.1)) in
-    subst (λ o. ReadsBytes (object_of o name) ins ins bytes) (sym is) (tt, (generated threads, refl, made ∙ sym whole))
+    subst (λ o. ReadsBytes (object_of o name) ins ins bytes) (sym is) (tt, (generated threads, refl, same ∙ sym whole))
 
 -- what was read of the bytes, or why they are refused
 pub as_read : (text : List ℕ) (r : Result (Sections × KernelOf × ℕ) ReadErr) → IsReadAs text r → MatchResult r (λ read. IsRead read text) (IsRefusedAs text)

@@ -1,5 +1,5 @@
 -- From the parts of the call to what was done.
-use Rattle.std.proofs.Common.{◌≡◌, ◌∙◌, ℕ, List, true, false, ap, Option, Some, None, Result, Ok, Err, IfOk, IsErr, IsErrAnd, MatchResult, refl, sym, subst, inl, inr}
+use Rattle.std.proofs.Common.{◌≡◌, ◌∙◌, ℕ, List, Bool, true, false, ap, Option, Some, None, Result, Ok, Err, IfOk, IsErr, IsErrAnd, MatchResult, refl, sym, subst, inl, inr}
 use Rattle.std.proofs.KnownBytes.{Appends-nil}
 use Rattle.pth_base.specs.declared.outcome.Outcome.{Outcome}
 use Rattle.pth_streams.specs.declared.sink.SinkErr.{SinkErr}
@@ -12,11 +12,13 @@ use Rattle.pth_command.specs.CommandLine.{Chooses, Asked, asked_of}
 use Rattle.pth_command.specs.declared.choice.Choice.{Choice}
 use Rattle.pth_command.specs.declared.command_line.WordsErr.{WordsErr}
 use Rattle.pth_command.specs.declared.command_line.WordsErr.TheVariants as words
-use Rattle.pth_player.specs.FaultsOfErrors.{fault_of_sink, fault_of_words}
+use Rattle.pth_filter.specs.Faults.{fault_of_write}
+use Rattle.pth_filter.specs.Objects.{Object, OtherStays, OthersStay, Stands, is_file, made, named, nothing}
+use Rattle.pth_player.specs.FaultsOfErrors.{fault_of_words}
 use Rattle.pth_player.specs.Drive.{Drives, IsRestTo}
 use Rattle.pth_streams.specs.Inputs.{Inputs}
 use Rattle.pth_streams.specs.Scene.{Scene, scene}
-use Rattle.pth_player.specs.Objects.{Object, ObjectRead, ObjectStood, OthersUntouched, asked_object, cut, nothing, the_file, the_input, the_workload}
+use Rattle.pth_player.specs.Objects.{ObjectRead, asked_object, cut}
 use Rattle.pth_player.specs.Output.{given_script, outcome_status, told_output, upgrade_output, IsRunOutput}
 use Rattle.pth_player.specs.Play.{HoldsScript, IsRead, Ran, RanFor, ReadsText, WritesScript, done_status}
 use Rattle.pth_streams.specs.Pieces.{Received}
@@ -32,18 +34,20 @@ use Rattle.pth_player.proofs.Reading.{read_stood}
 use Rattle.pth_player.proofs.Results.{err_is, ok_is, ok_not_err}
 
 -- nothing was touched if nothing was called
-pub others_refl : {S F : Type 0} (object : Object) (input : S) (files : F) → OthersUntouched object input input files files
+stays_refl : {S F : Type 0} (of_file : Bool) (input : S) (files : F) → OtherStays of_file input input files files
+stays_refl true input files = refl
+stays_refl false input files = refl
+
+pub others_refl : {S F : Type 0} (object : Object) (input : S) (files : F) → OthersStay object input input files files
 others_refl nothing input files = (refl, refl)
-others_refl (the_workload threads) input files = (refl, refl)
-others_refl the_input input files = refl
-others_refl (the_file name) input files = refl
+others_refl (made text) input files = (refl, refl)
+others_refl (named name) input files = stays_refl (is_file name) input files
 
 -- nothing is read of an object that is not asked
-pub stood_refl : (object : Object) (ins : Inputs) → ObjectStood object ins ins
+pub stood_refl : (object : Object) (ins : Inputs) → Stands object ins ins
 stood_refl nothing ins = tt
-stood_refl (the_workload threads) ins = tt
-stood_refl the_input ins = refl
-stood_refl (the_file name) ins = refl
+stood_refl (made text) ins = tt
+stood_refl (named name) ins = refl
 
 -- the words ask for this
 pub is_asked : (asked : Option Asked) (q : Result Choice WordsErr) (s : Result Choice Fault) (c : Choice) → Chooses asked q → MatchResult q (λ c. s ≡ Ok c) (λ x. IsErrAnd s (λ y. y ≡ fault_of_words x))
@@ -62,7 +66,7 @@ upgraded_of (Err e) = Err e
 
 abbrev pub done_of : Result Done SinkErr → Result Done Fault
 done_of (Ok d) = Ok d
-done_of (Err e) = Err (fault_of_sink e)
+done_of (Err e) = Err (fault_of_write e)
 
 module _ (asked : Option Asked) (ins : Inputs) (w : Received) where
   abbrev before : Scene
@@ -95,7 +99,7 @@ module _ (asked : Asked) (ins later : Inputs) (w : Received) where
 
   module _ {T : Type 0} (Is : T → List ℕ → Type 0) where
     unread_by : (e : Fault) → ReadsText Is (asked_object (Some asked)) ins later (Err e) → RanFor asked scene_before unwritten (Err e)
-    unread_by (fault.Input line breach) h = (h.0, h.1, (Appends-nil w.written, refl))
+    unread_by (fault.Input line flaw) h = (h.0, h.1, (Appends-nil w.written, refl))
     unread_by fault.ReadFault h = (h, (Appends-nil w.written, refl))
     unread_by fault.OutOfMemory h = (h, inl (Appends-nil w.written, refl))
     unread_by fault.Words h = absurd h
@@ -106,7 +110,7 @@ module _ (asked : Asked) (ins later : Inputs) (w : Received) where
     unread e r h some k = subst (λ y. RanFor asked scene_before unwritten y) (sym (err_is r e some k)) (unread_by e h)
 
   -- memory ran out for the machine
-  pub unmade : ObjectStood (asked_object (Some asked)) ins later → RanFor asked scene_before unwritten (Err fault.OutOfMemory)
+  pub unmade : Stands (asked_object (Some asked)) ins later → RanFor asked scene_before unwritten (Err fault.OutOfMemory)
   unmade stood = (stood, inl (Appends-nil w.written, refl))
 
   module _ (z : Received) where
@@ -177,5 +181,5 @@ pub ran_for : (asked : Option Asked) (x : Asked) (old new : Scene) (r : Result D
 ran_for asked x old new r is h = subst (λ o. Ran o old new r) (sym is) h
 
 -- the fault of a sink, as its caller tells it
-pub told_as : (asked : Asked) (old new : Scene) (e : SinkErr) (f : Fault) → f ≡ fault_of_sink e → RanFor asked old new (Err (fault_of_sink e)) → RanFor asked old new (Err f)
+pub told_as : (asked : Asked) (old new : Scene) (e : SinkErr) (f : Fault) → f ≡ fault_of_write e → RanFor asked old new (Err (fault_of_write e)) → RanFor asked old new (Err f)
 told_as asked old new e f is h = subst (λ y. RanFor asked old new (Err y)) (sym is) h

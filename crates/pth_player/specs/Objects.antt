@@ -1,12 +1,11 @@
--- The objects that the call is handed, and which of them it reads.
-use Rattle.std.specs.Prelude.{◌≡◌, ◌+◌, ℕ, List, [], Option, Some, None, IfSome, Result, Ok, Err, codes, drop, take, if◌then◌else◌}
-use Rattle.std.specs.Str.{bytes_eq}
-use Rattle.pth_streams.specs.Faults.{Rose}
-use Rattle.pth_streams.specs.Inputs.{Inputs}
-use Rattle.pth_streams.specs.Scene.{Scene}
+-- The object that the words ask for, and how much of it is read.
+use Rattle.std.specs.Prelude.{◌≡◌, ◌+◌, ℕ, List, Option, Some, None, IfSome, Result, Ok, Err, drop, take}
+use Rattle.pth_command.specs.CommandLine.{Asked}
+use Rattle.pth_filter.specs.Objects.{Object, Rises, Stands, content_of, content_under, faults_under, is_file, made, named, nothing, of_read}
 use Rattle.pth_script.specs.Generated.{generated}
 use Rattle.pth_script.specs.Limits.{text_limit}
-use Rattle.pth_command.specs.CommandLine.{Asked}
+use Rattle.pth_streams.specs.Inputs.{Inputs}
+use Rattle.pth_streams.specs.Scene.{Scene}
 use Rattle.pth_streams.specs.declared.source.ReadFault.{ReadFault}
 use Rattle.pth_streams.specs.declared.source.ReadFault.TheVariants as read
 
@@ -16,22 +15,10 @@ cut bytes = take (text_limit + 1) bytes
 
 -- ---- the object read
 
-pub data Object : Type 0 where
-  nothing : Object
-  -- the script of a workload with so many threads, which is made and not read
-  the_workload : ℕ → Object
-  the_input : Object
-  the_file : List ℕ → Object
-
--- the object under a name: the input stands under no name and under `-`
-abbrev pub object_named : Option (List ℕ) → Object
-object_named None = the_input
-object_named (Some name) = if bytes_eq name (codes "-") then the_input else the_file name
-
--- a workload, or the object under a name
+-- the script of a workload with so many threads, which is made, or what stands under the name
 abbrev pub object_of : Option ℕ → Option (List ℕ) → Object
-object_of None name = object_named name
-object_of (Some threads) name = the_workload threads
+object_of None name = named name
+object_of (Some threads) name = made (generated threads)
 
 -- the object that the words ask for; nothing is read if they are refused
 abbrev pub asked_object : Option Asked → Object
@@ -39,49 +26,25 @@ asked_object None = nothing
 asked_object (Some asked) = object_of asked.generate asked.file
 
 -- what it holds, if that is told
-abbrev pub content_of : Object → Inputs → Option (List ℕ)
-content_of nothing s = Some []
-content_of (the_workload threads) s = Some (generated threads)
-content_of the_input s = s.left
-content_of (the_file name) s = s.held name
-
 abbrev pub content : Option Asked → Scene → Option (List ℕ)
 content asked s = content_of (asked_object asked) s.ins
-
--- one fault of it was counted
-abbrev pub ObjectRose : Object → Inputs → Inputs → Type 0
-ObjectRose nothing old new = ⊥
-ObjectRose (the_workload threads) old new = ⊥
-ObjectRose the_input old new = Rose old.faults new.faults
-ObjectRose (the_file name) old new = Rose old.file_faults new.file_faults
 
 -- what was read of these bytes is lost, if they are told: all, or as much as the limit and a byte
 abbrev pub LosesRead : Option (List ℕ) → Option (List ℕ) → Type 0
 LosesRead old new = IfSome old (λ bytes. new ≡ Some (drop (text_limit + 1) bytes))
 
--- no fault of it was counted
-abbrev pub ObjectStood : Object → Inputs → Inputs → Type 0
-ObjectStood nothing old new = Unit {0}
-ObjectStood (the_workload threads) old new = Unit {0}
-ObjectStood the_input old new = new.faults ≡ old.faults
-ObjectStood (the_file name) old new = new.file_faults ≡ old.file_faults
+-- what is left of what stands under a name
+abbrev pub left_under : Option (List ℕ) → Inputs → Option (List ℕ)
+left_under name ins = of_read (is_file name) ins.left ins.file_left
 
 -- it lost what was read of it, and no read failed
 abbrev pub ObjectRead : Object → Inputs → Inputs → Type 0
 ObjectRead nothing old new = Unit {0}
-ObjectRead (the_workload threads) old new = Unit {0}
-ObjectRead the_input old new = LosesRead old.left new.left × (new.faults ≡ old.faults)
-ObjectRead (the_file name) old new = LosesRead (old.held name) new.file_left × (new.file_faults ≡ old.file_faults)
-
--- what the words don't name, of the input and the files, is as it was: it was not even asked
-abbrev pub OthersUntouched : {S F : Type 0} → Object → S → S → F → F → Type 0
-OthersUntouched nothing input later files after = (later ≡ input) × (after ≡ files)
-OthersUntouched (the_workload threads) input later files after = (later ≡ input) × (after ≡ files)
-OthersUntouched the_input input later files after = after ≡ files
-OthersUntouched (the_file name) input later files after = later ≡ input
+ObjectRead (made text) old new = Unit {0}
+ObjectRead (named name) old new = LosesRead (content_under name old) (left_under name new) × (faults_under name new ≡ faults_under name old)
 
 -- its count rises by one if a read failed, and stands still otherwise
 abbrev pub ObjectCounts : {T : Type 0} → Object → Inputs → Inputs → Result T ReadFault → Type 0
-ObjectCounts object old new (Ok x) = ObjectStood object old new
-ObjectCounts object old new (Err read.Failed) = ObjectRose object old new
-ObjectCounts object old new (Err read.OutOfMemory) = ObjectStood object old new
+ObjectCounts object old new (Ok x) = Stands object old new
+ObjectCounts object old new (Err read.Failed) = Rises object old new
+ObjectCounts object old new (Err read.OutOfMemory) = Stands object old new

@@ -1,5 +1,5 @@
 -- What the program writes, and its status, for words and the bytes of its input.
-use Rattle.std.specs.Prelude.{◌≡◌, ◌⊎◌, ℕ, true, false, List, [], Option, Some, None}
+use Rattle.std.specs.Prelude.{◌≡◌, ◌⊎◌, ℕ, true, false, List, Option, Some, None, codes}
 use Rattle.pth_base.specs.Program.{Functions}
 use Rattle.pth_base.specs.declared.outcome.Outcome.{Outcome}
 use Rattle.pth_base.specs.declared.outcome.Outcome.TheVariants as outcomes
@@ -7,16 +7,17 @@ use Rattle.pth_kernel.specs.Kernel.{KernelOf, kernel_of}
 use Rattle.pth_model.specs.State.{Given}
 use Rattle.pth_model.specs.Course.{Course}
 use Rattle.pth_model.specs.Run.{run, GoesTo}
-use Rattle.pth_print.specs.FaultLines.{fault_line, fault_status}
-use Rattle.pth_print.specs.declared.fault_line.Fault.{Fault}
+use Rattle.pth_filter.specs.Filter.{Filter}
+use Rattle.pth_filter.specs.Output.{Output, refusal}
 use Rattle.pth_print.specs.declared.fault_line.Fault.TheVariants as fault
+use Rattle.pth_print.specs.declared.fault_line.Flaw.TheVariants.{Breaks}
 use Rattle.pth_line.specs.Script.{Sections, functions_of}
 use Rattle.pth_script.specs.Broken.{IsAccepted, IsRefusal}
 use Rattle.pth_script.specs.Meaning.{IsScriptOf, IsKernelOf, IsTopOf}
 use Rattle.pth_script.specs.Upgrade.{upgraded}
 use Rattle.pth_text.specs.declared.rule.Breach.{Breach}
-use Rattle.pth_command.specs.CommandLine.{Asked}
-use Rattle.pth_player.specs.Objects.{cut}
+use Rattle.pth_command.specs.CommandLine.{Asked, asked_by}
+use Rattle.pth_player.specs.Objects.{cut, object_of}
 use Rattle.pth_player.specs.Transcript.{text_of}
 
 -- what the run of a text is given: the script, the kernel and the greatest base priority for which it stands
@@ -31,15 +32,9 @@ IsTheScript g text = IsAccepted text × IsScriptOf g.program text × IsKernelOf 
 abbrev pub IsRefused : List ℕ → Type 0
 IsRefused text = (line : ℕ) × (b : Breach) × IsRefusal text line b
 
--- what is written to standard output, the line of a fault, and the exit status
-pub record Output : Type 0 where
-  pub text : List ℕ
-  pub fault : Option (List ℕ)
-  pub status : ℕ
-
--- the output if a fault comes before a run
-abbrev pub refusal : Fault → Output
-refusal f = record { text = []; fault = Some (fault_line f); status = fault_status f }
+-- the name of the program
+abbrev pub program : List ℕ
+program = codes "pth_play"
 
 -- the status of an outcome
 abbrev pub outcome_status : Outcome → ℕ
@@ -78,13 +73,17 @@ IsScriptOutput asked text out =
 -- the output for an input: that of its script, or the refusal of the first line that breaks a rule
 abbrev pub IsInputOutput : Asked → List ℕ → Output → Type 0
 IsInputOutput asked text out =
-    IsScriptOutput asked text out ⊎ ((line : ℕ) × (b : Breach) × IsRefusal text line b × (out ≡ refusal (fault.Input line b)))
+    IsScriptOutput asked text out ⊎ ((line : ℕ) × (b : Breach) × IsRefusal text line b × (out ≡ refusal program (fault.Input line (Breaks b))))
 
 -- the output for what the words ask for, if they are not refused, and the bytes of the object that they name
 abbrev pub IsOutput : Option Asked → List ℕ → Output → Type 0
-IsOutput None bytes out = out ≡ refusal fault.Words
+IsOutput None bytes out = out ≡ refusal program fault.Words
 IsOutput (Some asked) bytes out = IsInputOutput asked (cut bytes) out
 
 -- and there is no other
 abbrev pub IsTheOutput : Option Asked → List ℕ → Output → Type 0
 IsTheOutput asked bytes out = IsOutput asked bytes out × ((other : Output) → IsOutput asked bytes other → other ≡ out)
+
+-- the program
+abbrev pub play : Filter Asked
+play = record { name = program; asked = asked_by; object = λ asked. object_of asked.generate asked.file; IsOutput = IsTheOutput }

@@ -4,7 +4,7 @@
 //! the words and the bytes of the object read, with that output's status (`IsOutput`,
 //! `every_input_has_one_output`). It comes to 4 or 5 only if the object read or the output failed. No clause keeps
 //! it from 7, which says that memory ran out; then nothing or a beginning of the text was written.
-//! `specs/Play.antt` says fact by fact what else holds by the status. If an object tells no bytes, nothing is said
+//! `play` is a filter (`pth_filter`), and `specs/Play.antt` says fact by fact what else holds by the status. If an object tells no bytes, nothing is said
 //! of them.
 #![tactic(auto)]
 
@@ -12,11 +12,9 @@ mod done;
 pub mod drive;
 mod faults;
 pub mod laws;
-mod report;
 mod run;
 mod script;
 mod streams;
 mod top;
 
-pub use report::report_fault;
-pub use top::play;
+pub use top::{PROGRAM, play};

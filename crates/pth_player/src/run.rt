@@ -9,18 +9,20 @@ ghost use Rattle.pth_command.specs.CommandLine.{IsWorkload, asked_by, asked_of};
 ghost use Rattle.pth_sched.specs.Running.{StandsAt};
 ghost use Rattle.pth_streams.specs.Inputs.{inputs};
 ghost use Rattle.pth_streams.specs.Scene.{scene};
-ghost use Rattle.pth_player.specs.Objects.{asked_object, OthersUntouched};
+ghost use Rattle.pth_filter.specs.Objects.{OthersStay};
+ghost use Rattle.pth_player.specs.Objects.{asked_object};
 ghost use Rattle.pth_player.specs.Output.{given_script};
 ghost use Rattle.pth_player.specs.Play.{Ran, RanFor};
 ghost use Rattle.pth_streams.specs.Pieces.{received};
 
 use crate::done::Done;
 use crate::drive::drive;
-use crate::faults::{fault_of_sink, fault_of_words};
+use crate::faults::fault_of_words;
 use crate::script::{read_script, read_upgrade};
 use pth_base::memory::OutOfMemory;
 use pth_command::choice::Choice;
 use pth_command::command_line::read_words;
+use pth_filter::faults::fault_of_write;
 use pth_kernel::kernel::Kernel;
 use pth_line::script::Script;
 use pth_print::fault_line::Fault;
@@ -63,7 +65,7 @@ fn run_script<S: Source, F: Files, O: Sink>(
         (F.left files.new) (F.held files.new) (F.faults files.new))
         (received (O.written out.new) (O.faults out.new)))
         result }
-    ensures others { OthersUntouched (asked_object (Some (asked_of choice.now))) input.old input.new files.old files.new }
+    ensures others { OthersStay (asked_object (Some (asked_of choice.now))) input.old input.new files.old files.new }
 {
     let read = read_script(alloc, choice, input, files)?;
     let Ok(mut machine) = machine_of(alloc, read) else {
@@ -71,7 +73,7 @@ fn run_script<S: Source, F: Files, O: Sink>(
     };
     match drive(alloc, &mut machine, choice, PIECE, out) {
         Ok(outcome) => Ok(Done::Ran(outcome)),
-        Err(e) => Err(fault_of_sink(e)),
+        Err(e) => Err(fault_of_write(e)),
     }
 }
 
@@ -93,12 +95,12 @@ fn upgrade_script<S: Source, F: Files, O: Sink>(
         (F.left files.new) (F.held files.new) (F.faults files.new))
         (received (O.written out.new) (O.faults out.new)))
         result }
-    ensures others { OthersUntouched (asked_object (Some (asked_of choice.now))) input.old input.new files.old files.new }
+    ensures others { OthersStay (asked_object (Some (asked_of choice.now))) input.old input.new files.old files.new }
 {
     let text = read_upgrade(alloc, choice, input, files)?;
     match write_all(out, text.as_slice()) {
         Ok(()) => Ok(Done::Upgraded),
-        Err(e) => Err(fault_of_sink(e)),
+        Err(e) => Err(fault_of_write(e)),
     }
 }
 
@@ -118,7 +120,7 @@ pub fn run<S: Source, F: Files, O: Sink>(
         (F.left files.new) (F.held files.new) (F.faults files.new))
         (received (O.written out.new) (O.faults out.new)))
         result }
-    ensures others { OthersUntouched (asked_object (asked_by (map string_bytes words.now.items)))
+    ensures others { OthersStay (asked_object (asked_by (map string_bytes words.now.items)))
         input.old input.new files.old files.new }
 {
     let choice = read_words(alloc, words).map_err(fault_of_words)?;

@@ -6,18 +6,20 @@ ghost use Rattle.std.specs.Prelude.{◌≡◌, IfOk, IfSome, Some, option_map};
 ghost use Rattle.pth_base.specs.Limits.{IsGreatestPriority};
 ghost use Rattle.pth_command.specs.CommandLine.{IsWorkload, asked_of};
 ghost use Rattle.pth_streams.specs.Inputs.{inputs};
-ghost use Rattle.pth_player.specs.Objects.{asked_object, object_named, ObjectCounts, OthersUntouched};
+ghost use Rattle.pth_filter.specs.Objects.{OthersStay, named};
+ghost use Rattle.pth_player.specs.Objects.{asked_object, ObjectCounts};
 ghost use Rattle.pth_streams.specs.Faults.{CountsRead};
 ghost use Rattle.pth_player.specs.Streams.{TakesUpTo};
 ghost use Rattle.pth_player.specs.Play.{IsRead, ReadsBytes, ReadsText};
 ghost use Rattle.pth_script.specs.Generated.{generated};
 ghost use Rattle.pth_script.specs.Upgrade.{IsUpgrade};
 
-use crate::faults::{fault_of_read, fault_of_script};
+use crate::faults::fault_of_script;
 use crate::streams::{read_started, read_up_to};
 use pth_base::bytes::Bytes;
 use pth_base::memory::OutOfMemory;
 use pth_command::choice::Choice;
+use pth_filter::faults::fault_of_read;
 use pth_kernel::kernel::Kernel;
 use pth_line::script::Script;
 use pth_print::fault_line::Fault;
@@ -48,13 +50,13 @@ fn read_named<S: Source, F: Files>(
     input: &mut S,
     files: &mut F,
 ) -> Result<Vec<u8>, ReadFault>
-    ensures bytes { IfOk result (λ v. ReadsBytes (object_named (option_map (λ n. n.now) name.entry))
+    ensures bytes { IfOk result (λ v. ReadsBytes (named (option_map (λ n. n.now) name.entry))
         (inputs (S.left input.old) (S.faults input.old) (F.left files.old) (F.held files.old) (F.faults files.old))
         (inputs (S.left input.new) (S.faults input.new) (F.left files.new) (F.held files.new) (F.faults files.new)) v.items) }
-    ensures counts { ObjectCounts (object_named (option_map (λ n. n.now) name.entry))
+    ensures counts { ObjectCounts (named (option_map (λ n. n.now) name.entry))
         (inputs (S.left input.old) (S.faults input.old) (F.left files.old) (F.held files.old) (F.faults files.old))
         (inputs (S.left input.new) (S.faults input.new) (F.left files.new) (F.held files.new) (F.faults files.new)) result }
-    ensures others { OthersUntouched (object_named (option_map (λ n. n.now) name.entry)) input.old input.new files.old files.new }
+    ensures others { OthersStay (named (option_map (λ n. n.now) name.entry)) input.old input.new files.old files.new }
 {
     match name {
         Some(name) if name != "-" => read_file(alloc, name, files),
@@ -85,7 +87,7 @@ fn read_bytes<S: Source, F: Files>(
     ensures counts { ObjectCounts (asked_object (Some (asked_of choice.now)))
         (inputs (S.left input.old) (S.faults input.old) (F.left files.old) (F.held files.old) (F.faults files.old))
         (inputs (S.left input.new) (S.faults input.new) (F.left files.new) (F.held files.new) (F.faults files.new)) result }
-    ensures others { OthersUntouched (asked_object (Some (asked_of choice.now))) input.old input.new files.old files.new }
+    ensures others { OthersStay (asked_object (Some (asked_of choice.now))) input.old input.new files.old files.new }
 {
     let Some(threads) = choice.generate else {
         return read_named(alloc, choice.file, input, files);
@@ -108,7 +110,7 @@ pub fn read_script<S: Source, F: Files>(
         (inputs (S.left input.old) (S.faults input.old) (F.left files.old) (F.held files.old) (F.faults files.old))
         (inputs (S.left input.new) (S.faults input.new) (F.left files.new) (F.held files.new) (F.faults files.new)) result }
     ensures range { IfOk result (λ read. IsGreatestPriority read.2) }
-    ensures others { OthersUntouched (asked_object (Some (asked_of choice.now))) input.old input.new files.old files.new }
+    ensures others { OthersStay (asked_object (Some (asked_of choice.now))) input.old input.new files.old files.new }
 {
     let bytes = read_bytes(alloc, choice, input, files).map_err(fault_of_read)?;
     read(alloc, &bytes).map_err(fault_of_script)
@@ -125,7 +127,7 @@ pub fn read_upgrade<S: Source, F: Files>(
     ensures upgrade { ReadsText IsUpgrade (asked_object (Some (asked_of choice.now)))
         (inputs (S.left input.old) (S.faults input.old) (F.left files.old) (F.held files.old) (F.faults files.old))
         (inputs (S.left input.new) (S.faults input.new) (F.left files.new) (F.held files.new) (F.faults files.new)) result }
-    ensures others { OthersUntouched (asked_object (Some (asked_of choice.now))) input.old input.new files.old files.new }
+    ensures others { OthersStay (asked_object (Some (asked_of choice.now))) input.old input.new files.old files.new }
 {
     let bytes = read_bytes(alloc, choice, input, files).map_err(fault_of_read)?;
     upgrade(alloc, &bytes).map_err(fault_of_script)

@@ -4,35 +4,37 @@ ghost use Rattle.std.specs.Prelude.{◌≡◌, ◌≤◌, map, string_bytes};
 ghost use Rattle.pth_command.specs.CommandLine.{asked_by};
 ghost use Rattle.pth_streams.specs.Inputs.{inputs};
 ghost use Rattle.pth_streams.specs.Scene.{scene};
-ghost use Rattle.pth_player.specs.Objects.{asked_object, OthersUntouched};
-ghost use Rattle.pth_player.specs.Play.{Ends, Plays};
+ghost use Rattle.pth_filter.specs.Objects.{OthersStay};
+ghost use Rattle.pth_player.specs.Objects.{asked_object};
+ghost use Rattle.pth_player.specs.Play.{Plays, answer_of};
 ghost use Rattle.pth_streams.specs.Pieces.{received};
 
 use crate::done::Done;
-use crate::report::report_fault;
 use crate::run::run;
 use pth_base::outcome::Outcome;
+use pth_filter::finish::finish;
 use pth_print::fault_line::Fault;
 use pth_streams::files::Files;
 use pth_streams::sink::Sink;
 use pth_streams::source::Source;
 use std::alloc::Global;
 
-/// The status of what was done, with the line of a fault on `err`.
-fn finish<E: Sink>(alloc: Global, ran: Result<Done, Fault>, err: &mut E) -> u8
-    ensures { Ends ran result
-        (received (E.written err.old) (E.faults err.old))
-        (received (E.written err.new) (E.faults err.new)) }
+/// The name of the program, as the lines of its faults tell it.
+pub const PROGRAM: &str = "pth_play";
+
+/// The status of what was done, or its fault.
+fn answer(ran: Result<Done, Fault>) -> Result<u8, Fault>
+    ensures { result ≡ answer_of ran }
 {
     match ran {
-        Ok(Done::Upgraded) => 0,
-        Ok(Done::Ran(Outcome::Ended(_))) => 0,
-        Ok(Done::Ran(Outcome::Killed)) => 0,
-        Ok(Done::Ran(Outcome::Stalled)) => 1,
-        Ok(Done::Ran(Outcome::Running)) => 6,
+        Ok(Done::Upgraded) => Ok(0),
+        Ok(Done::Ran(Outcome::Ended(_))) => Ok(0),
+        Ok(Done::Ran(Outcome::Killed)) => Ok(0),
+        Ok(Done::Ran(Outcome::Stalled)) => Ok(1),
+        Ok(Done::Ran(Outcome::Running)) => Ok(6),
         // No run comes back with it: want of memory is a fault.
-        Ok(Done::Ran(Outcome::OutOfMemory)) => 7,
-        Err(fault) => report_fault(alloc, fault, err),
+        Ok(Done::Ran(Outcome::OutOfMemory)) => Err(Fault::OutOfMemory),
+        Err(fault) => Err(fault),
     }
 }
 
@@ -59,10 +61,10 @@ pub fn play<S: Source, F: Files, O: Sink, E: Sink>(
     err: &mut E,
 ) -> u8
     ensures status { result ≤ 7 }
-    ensures others { OthersUntouched (asked_object (asked_by (map string_bytes words.now.items)))
+    ensures others { OthersStay (asked_object (asked_by (map string_bytes words.now.items)))
         input.old input.new files.old files.new }
     ensures plays { Plays (record {
-      asked = asked_by (map string_bytes words.now.items);
+      words = map string_bytes words.now.items;
       old = scene (inputs (S.left input.old) (S.faults input.old)
           (F.left files.old) (F.held files.old) (F.faults files.old))
           (received (O.written out.old) (O.faults out.old));
@@ -75,5 +77,5 @@ pub fn play<S: Source, F: Files, O: Sink, E: Sink>(
     }) }
 {
     let ran = run(alloc, words, input, files, out);
-    finish(alloc, ran, err)
+    finish(alloc, PROGRAM, answer(ran), err)
 }

@@ -1,21 +1,26 @@
-//! What goes wrong in a call of the program.
+//! What goes wrong in a program.
 
-ghost use Rattle.std.specs.Prelude.{◌≡◌, ◌++◌, OnOk, OnErr};
-ghost use Rattle.pth_base.specs.Cut.{IsCut};
+ghost use Rattle.std.specs.Prelude.{◌≡◌};
 ghost use Rattle.pth_print.specs.Adding.{AddsText};
-ghost use Rattle.pth_print.specs.declared.fault_line.Fault.TheVariants as fault;
-ghost use Rattle.pth_print.specs.FaultLines.{breach_name, fault_line, fault_status};
+ghost use Rattle.pth_print.specs.FaultLines.{fault_line, fault_status, flaw_name, refused_line, told_fault};
 
 use pth_base::memory::OutOfMemory;
 use pth_text::rule::{Breach, Rule};
 use pth_text::text::Text;
 
-/// Why the program printed no whole run: its words or its input were refused, reading or writing failed, or memory ran
-/// out. An input is refused at a line, numbered from 1.
+/// What is wrong in a line: it breaks a rule of scripts or passes a limit, or it is no line of a transcript.
+#[derive(Clone, Copy)]
+pub enum Flaw {
+    Breaks(Breach),
+    NoTranscript,
+}
+
+/// Why a program did not write its whole text: its words or a line of its input were refused, reading or writing failed, or memory ran out.
+/// Lines are numbered from 1.
 #[derive(Clone, Copy)]
 pub enum Fault {
     Words,
-    Input { line: u32, breach: Breach },
+    Input { line: u64, flaw: Flaw },
     ReadFault,
     WriteFault,
     OutOfMemory,
@@ -36,48 +41,56 @@ impl Fault {
     }
 }
 
-/// The name of what a line breaks.
-fn breach_name(breach: Breach) -> &'static [u8]
-    ensures { result.now ≡ breach_name breach }
+/// The name of what is wrong in a line.
+fn flaw_name(flaw: Flaw) -> &'static [u8]
+    ensures { result.now ≡ flaw_name flaw }
 {
-    match breach {
-        Breach::Limit => b"limit",
-        Breach::Of(Rule::Cut) => b"cut",
-        Breach::Of(Rule::Header) => b"header",
-        Breach::Of(Rule::Word) => b"word",
-        Breach::Of(Rule::Count) => b"count",
-        Breach::Of(Rule::Operand) => b"operand",
-        Breach::Of(Rule::Hex) => b"hex",
-        Breach::Of(Rule::Number) => b"number",
-        Breach::Of(Rule::Label) => b"label",
-        Breach::Of(Rule::Main) => b"main",
-        Breach::Of(Rule::End) => b"end",
-        Breach::Of(Rule::Time) => b"time",
-        Breach::Of(Rule::Fd) => b"fd",
+    match flaw {
+        Flaw::NoTranscript => b"no transcript",
+        Flaw::Breaks(Breach::Limit) => b"limit",
+        Flaw::Breaks(Breach::Of(Rule::Cut)) => b"cut",
+        Flaw::Breaks(Breach::Of(Rule::Header)) => b"header",
+        Flaw::Breaks(Breach::Of(Rule::Word)) => b"word",
+        Flaw::Breaks(Breach::Of(Rule::Count)) => b"count",
+        Flaw::Breaks(Breach::Of(Rule::Operand)) => b"operand",
+        Flaw::Breaks(Breach::Of(Rule::Hex)) => b"hex",
+        Flaw::Breaks(Breach::Of(Rule::Number)) => b"number",
+        Flaw::Breaks(Breach::Of(Rule::Label)) => b"label",
+        Flaw::Breaks(Breach::Of(Rule::Main)) => b"main",
+        Flaw::Breaks(Breach::Of(Rule::End)) => b"end",
+        Flaw::Breaks(Breach::Of(Rule::Time)) => b"time",
+        Flaw::Breaks(Breach::Of(Rule::Fd)) => b"fd",
     }
 }
 
-/// Adds the line that tells of a refused input.
-fn input_line(line: u32, breach: Breach, out: &mut Text) -> Result<(), OutOfMemory>
-    ensures { AddsText out.old out.new result (fault_line (fault.Input line breach)) }
+/// Adds the number of a line that is refused, and why.
+fn add_refused(line: u64, flaw: Flaw, out: &mut Text) -> Result<(), OutOfMemory>
+    ensures { AddsText out.old out.new result (refused_line line flaw) }
 {
-    out.push(b"pth_play: line ")?;
-    out.natural(u64::from(line))?;
+    out.push(b": line ")?;
+    out.natural(line)?;
     out.push(b": ")?;
-    out.push(breach_name(breach))?;
+    out.push(flaw_name(flaw))?;
     out.push(b"\n")
 }
 
-/// Adds the line that tells of a fault.
-pub fn fault_line(f: &Fault, out: &mut Text) -> Result<(), OutOfMemory>
-    ensures ok { OnOk result (out.new ≡ out.old ++ fault_line f.now) }
-    ensures err { OnErr result (IsCut out.old out.new (fault_line f.now)) }
+/// Adds what is told of a fault behind the program's name.
+fn add_told(f: Fault, out: &mut Text) -> Result<(), OutOfMemory>
+    ensures { AddsText out.old out.new result (told_fault f) }
 {
     match f {
-        Fault::Words => out.push(b"pth_play: words refused\n"),
-        Fault::Input { line, breach } => input_line(*line, *breach, out),
-        Fault::ReadFault => out.push(b"pth_play: read fault\n"),
-        Fault::WriteFault => out.push(b"pth_play: write fault\n"),
-        Fault::OutOfMemory => out.push(b"pth_play: out of memory\n"),
+        Fault::Words => out.push(b": words refused\n"),
+        Fault::Input { line, flaw } => add_refused(line, flaw, out),
+        Fault::ReadFault => out.push(b": read fault\n"),
+        Fault::WriteFault => out.push(b": write fault\n"),
+        Fault::OutOfMemory => out.push(b": out of memory\n"),
     }
+}
+
+/// Adds the line that tells of a fault of the program with this name.
+pub fn fault_line(program: &str, f: Fault, out: &mut Text) -> Result<(), OutOfMemory>
+    ensures { AddsText out.old out.new result (fault_line program.now f) }
+{
+    out.push(program.as_bytes())?;
+    add_told(f, out)
 }

@@ -1,7 +1,5 @@
 pub mod LineFound
 pub mod Takings
-pub mod AskedHelp
-pub mod GivenHelp
 pub mod Splits
 pub mod Pieces
 pub mod SetsBack

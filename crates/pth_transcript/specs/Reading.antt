@@ -1,12 +1,11 @@
 -- What a reader of a transcript answers.
 use Rattle.std.specs.Prelude.{◌≡◌, ◌+◌, ◌-◌, ◌^◌, ℕ, List, min, Result, Err}
 use Rattle.pth_streams.specs.Faults.{Rose}
-use Rattle.pth_streams.specs.declared.source.ReadFault.{ReadFault}
-use Rattle.pth_streams.specs.declared.source.ReadFault.TheVariants as read
 use Rattle.pth_transcript.specs.Plain.{IsPlain}
 use Rattle.pth_transcript.specs.Transcript.{ending_line, told_line}
-use Rattle.pth_transcript.specs.declared.fault.Fault.{Fault}
-use Rattle.pth_transcript.specs.declared.fault.Fault.TheVariants as fault
+use Rattle.pth_print.specs.declared.fault_line.Fault.{Fault}
+use Rattle.pth_print.specs.declared.fault_line.Fault.TheVariants as fault
+use Rattle.pth_print.specs.declared.fault_line.Flaw.TheVariants.{NoTranscript}
 use Rattle.pth_transcript.specs.declared.reader.Part.{Part}
 use Rattle.pth_transcript.specs.declared.reader.Part.TheVariants as part
 
@@ -24,14 +23,9 @@ IsPlainPart (part.Ending ending) = Unit {0}
 abbrev pub next_line : ℕ → ℕ
 next_line lines = min (lines + 1) (2 ^ 64 - 1)
 
--- the fault of a read
-abbrev pub fault_of : ReadFault → Fault
-fault_of read.Failed = fault.ReadFault
-fault_of read.OutOfMemory = fault.OutOfMemory
-
 -- after so many lines a reader comes to this fault: a line that is refused is the next one
 abbrev pub ComesTo : ℕ → Fault → Type 0
-ComesTo lines (fault.NoTranscript line) = line ≡ next_line lines
+ComesTo lines (fault.Input line why) = (line ≡ next_line lines) × (why ≡ NoTranscript)
 ComesTo lines fault.ReadFault = Unit {0}
 ComesTo lines fault.OutOfMemory = Unit {0}
 ComesTo lines fault.Words = ⊥

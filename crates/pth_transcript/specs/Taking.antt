@@ -1,24 +1,9 @@
 -- What is taken of the input or of a file, a line at a time.
-use Rattle.std.specs.Prelude.{◌≡◌, ◌≢◌, ◌⊎◌, ℕ, Bool, true, false, not, List, [], ◌++◌, Option, Some, None, Result, Ok, Err, codes, if◌then◌else◌}
+use Rattle.std.specs.Prelude.{◌≡◌, ◌≢◌, ◌⊎◌, ℕ, Bool, true, false, List, [], ◌++◌, Option, Some, None, Result, Ok, Err, codes}
 use Rattle.std.specs.Io.KnownBytes.{Consumes, IsAtEnd}
-use Rattle.std.specs.Str.{bytes_eq}
-use Rattle.pth_streams.specs.Inputs.{Inputs}
+use Rattle.pth_filter.specs.Objects.{is_file}
 
 -- ---- the object that is read
-
--- a name is that of a file: the input stands under no name and under `-`
-abbrev pub is_file : Option (List ℕ) → Bool
-is_file None = false
-is_file (Some name) = not (bytes_eq name (codes "-"))
-
--- of the input and of the files, what is told of the one that is read
-abbrev pub of_read : {T : Type 0} → (of_file : Bool) → (input files : T) → T
-of_read of_file input files = if of_file then files else input
-
--- what stands under a name, if that is told
-abbrev pub content_under : Option (List ℕ) → Inputs → Option (List ℕ)
-content_under None ins = ins.left
-content_under (Some name) ins = if bytes_eq name (codes "-") then ins.left else ins.held name
 
 -- a file that is read was started
 abbrev pub IsStarted : (of_file : Bool) → (started : Bool) → Type 0
@@ -30,11 +15,6 @@ Opens None held left started (Ok x) = Unit {0}
 Opens None held left started (Err e) = ⊥
 Opens (Some name) held left started (Ok x) = is_file (Some name) ≡ true → (started ≡ true) × (left ≡ held name)
 Opens (Some name) held left started (Err e) = is_file (Some name) ≡ true
-
--- of the input and the files, the one that is not read is as it was: it was not even asked
-abbrev pub OtherStays : {S F : Type 0} → (of_file : Bool) → S → S → F → F → Type 0
-OtherStays true input later files after = later ≡ input
-OtherStays false input later files after = after ≡ files
 
 -- ---- lines
 

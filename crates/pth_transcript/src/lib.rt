@@ -8,8 +8,6 @@ mod act;
 mod answer;
 mod call;
 pub mod ending;
-pub mod fault;
-pub mod help;
 mod lines;
 mod number;
 mod plain;

@@ -4,7 +4,8 @@ ghost use Rattle.std.specs.Prelude.{◌≡◌, ◌<◌, ◌≤◌, [], ◌++◌,
 ghost use Rattle.std.specs.Io.{ReadsAtMost};
 ghost use Rattle.std.specs.Io.KnownBytes.{IsAtEnd, ReadConsumes};
 ghost use Rattle.pth_streams.specs.Faults.{Counts, CountsRead};
-ghost use Rattle.pth_transcript.specs.Taking.{IsStarted, OtherStays, Takes, TakesLine, ahead, of_read};
+ghost use Rattle.pth_filter.specs.Objects.{OtherStays, of_read};
+ghost use Rattle.pth_transcript.specs.Taking.{IsStarted, Takes, TakesLine, ahead};
 
 use pth_streams::files::Files;
 use pth_streams::source::{Failed, ReadFault, Source};

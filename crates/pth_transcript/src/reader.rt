@@ -2,14 +2,16 @@
 
 ghost use Rattle.std.specs.Prelude.{◌≡◌, ◌+◌, ◌<◌, ◌^◌, ◌++◌, ◌⊎◌, [], IfOk, IfSome, IfErr, codes, option_map, true, false};
 ghost use Rattle.pth_streams.specs.Faults.{Counts, CountsRead};
-ghost use Rattle.pth_transcript.specs.Reading.{ComesTo, CountsFault, IsPlainPart, fault_of, part_line};
-ghost use Rattle.pth_transcript.specs.Taking.{HasMore, IsOver, IsStarted, Opens, OtherStays, Takes, ahead, is_file, of_read};
+ghost use Rattle.pth_transcript.specs.Reading.{ComesTo, CountsFault, IsPlainPart, part_line};
+ghost use Rattle.pth_filter.specs.Objects.{OtherStays, is_file, of_read};
+ghost use Rattle.pth_transcript.specs.Taking.{HasMore, IsOver, IsStarted, Opens, Takes, ahead};
 
 use crate::ending::{Ending, read_ending};
-use crate::fault::Fault;
 use crate::lines::Lines;
 use crate::told::{Told, read_line};
 use pth_base::memory::OutOfMemory;
+use pth_filter::faults::fault_of_read;
+use pth_print::fault_line::{Fault, Flaw};
 use pth_streams::files::Files;
 use pth_streams::source::{Failed, ReadFault, Source};
 use std::alloc::Global;
@@ -48,16 +50,6 @@ fn read_part(alloc: Global, line: &[u8]) -> Result<Option<Part>, OutOfMemory>
     match read_ending(alloc, line)? {
         Some(ending) => Ok(Some(Part::Ending(ending))),
         None => Ok(None),
-    }
-}
-
-// The fault of a read.
-fn fault_of(e: ReadFault) -> Fault
-    ensures { result ≡ fault_of e }
-{
-    match e {
-        ReadFault::Failed => Fault::ReadFault,
-        ReadFault::OutOfMemory => Fault::OutOfMemory,
     }
 }
 
@@ -143,13 +135,16 @@ impl Reader {
         ensures other { OtherStays self.old.of_file input.old input.new files.old files.new }
     {
         let line = self.count.saturating_add(1);
-        let found = self.next_part(alloc, input, files).map_err(fault_of)?;
+        let found = self.next_part(alloc, input, files).map_err(fault_of_read)?;
         match found {
             Some(part) if self.count < line => {
                 self.count = line;
                 Ok(part)
             }
-            _ => Err(Fault::NoTranscript { line }),
+            _ => Err(Fault::Input {
+                line,
+                flaw: Flaw::NoTranscript,
+            }),
         }
     }
 
@@ -174,7 +169,7 @@ impl Reader {
     {
         match self.lines.take(input, files) {
             Ok(found) => Ok(!found && self.lines.has_all()),
-            Err(e) => Err(fault_of(e)),
+            Err(e) => Err(fault_of_read(e)),
         }
     }
 }

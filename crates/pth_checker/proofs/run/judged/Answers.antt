@@ -5,7 +5,7 @@ use Rattle.pth_checker.proofs.Opened.{heard_whole}
 use Rattle.pth_checker.specs.Words.{name_of}
 use Rattle.pth_streams.specs.Inputs.{inputs}
 use Rattle.pth_transcript.specs.Reading.{CountsFault}
-use Rattle.pth_transcript.specs.Taking.{content_under}
+use Rattle.pth_filter.specs.Objects.{content_under}
 use Rattle.pth_checker.proofs.run.judged.Goals as goal
 
 pub returns-in_err-session-clause-counts : goal.returns-in_err-session-clause-counts

@@ -1,5 +1,5 @@
 use Rattle.std.proofs.Common.{◌∙◌, refl}
-use Rattle.pth_transcript.specs.Taking.{of_read}
+use Rattle.pth_filter.specs.Objects.{of_read}
 use Rattle.pth_drawing.proofs.Along.{begins, ends, goes_on, stops}
 use Rattle.pth_drawing.proofs.Objects.{others_none, others_of, stood_of, taken_of}
 use Rattle.pth_drawing.proofs.Results.{passed_on}

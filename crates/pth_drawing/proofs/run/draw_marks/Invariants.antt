@@ -1,5 +1,6 @@
 use Rattle.std.proofs.Common.{◌≡◌, ◌-◌, ◌^◌, []}
-use Rattle.pth_transcript.specs.Taking.{IsStarted, OtherStays, ahead, of_read}
+use Rattle.pth_filter.specs.Objects.{OtherStays, of_read}
+use Rattle.pth_transcript.specs.Taking.{IsStarted, ahead}
 use Rattle.pth_drawing.specs.Taken.{IsAlong}
 use Rattle.pth_drawing.proofs.run.draw_marks.Given as goal
 

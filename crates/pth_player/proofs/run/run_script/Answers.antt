@@ -34,6 +34,6 @@ returns-clause-ran g c =
     let ins = inputs (g.S.Source.left c.args.input.now) (g.S.Source.faults c.args.input.now) (g.F.Files.left c.args.files.now) (g.F.Files.held c.args.files.now) (g.F.Files.faults c.args.files.now) in
     let later = inputs (g.S.Source.left c.read_script.new.input) (g.S.Source.faults c.read_script.new.input) (g.F.Files.left c.read_script.new.files) (g.F.Files.held c.read_script.new.files) (g.F.Files.faults c.read_script.new.files) in
     let read = c.in_ok-read.read in
-    told_as (asked_of c.args.choice.now) (scene ins (received (g.O.Sink.written c.args.out.now) (g.O.Sink.faults c.args.out.now))) (scene later (received (g.O.Sink.written c.drive.new.out) (g.O.Sink.faults c.drive.new.out))) c.in-Err.e _ c.fault_of_sink.ensures
+    told_as (asked_of c.args.choice.now) (scene ins (received (g.O.Sink.written c.args.out.now) (g.O.Sink.faults c.args.out.now))) (scene later (received (g.O.Sink.written c.drive.new.out) (g.O.Sink.faults c.drive.new.out))) c.in-Err.e _ c.fault_of_write.ensures
     (drove (asked_of c.args.choice.now) ins later (received (g.O.Sink.written c.args.out.now) (g.O.Sink.faults c.args.out.now)) (received (g.O.Sink.written c.drive.new.out) (g.O.Sink.faults c.drive.new.out)) c.requires.runs read c.in_ok-read.ensures.script (Err c.in-Err.e)
     (c.in-Err.ensures.written (given_script read) 0 c.in-Ok.ensures.stands))

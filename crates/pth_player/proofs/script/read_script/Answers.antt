@@ -5,7 +5,8 @@ use Rattle.pth_player.proofs.Reading.{as_read, read_is, unread_is}
 use Rattle.pth_player.proofs.Results.{kept, ok_kept}
 use Rattle.pth_streams.specs.Inputs.{inputs}
 use Rattle.pth_player.specs.Objects.{asked_object}
-use Rattle.pth_player.specs.FaultsOfErrors.{fault_of_read, fault_of_script}
+use Rattle.pth_filter.specs.Faults.{fault_of_read}
+use Rattle.pth_player.specs.FaultsOfErrors.{fault_of_script}
 use Rattle.pth_player.specs.Play.{IsRead, ReadsBytes}
 use Rattle.pth_player.proofs.script.read_script.Goals as goal
 

@@ -1,7 +1,7 @@
 use Rattle.std.proofs.Common.{◌∙◌, subst, sym}
 use Rattle.pth_checker.specs.Session.{ComesTo}
 use Rattle.pth_checker.proofs.Heard.{err_is, goes_on_as, heard_of_same, other_then, stood_then}
-use Rattle.pth_transcript.specs.Taking.{of_read}
+use Rattle.pth_filter.specs.Objects.{of_read}
 use Rattle.pth_checker.proofs.session.Session.judge.Goals as goal
 
 pub returns-in_err-verdict-clause-comes_to : goal.returns-in_err-verdict-clause-comes_to

@@ -1,6 +1,7 @@
 use Rattle.std.proofs.Common.{◌≡◌, ◌-◌, ◌^◌, ℕ, List, Option}
 use Rattle.pth_checker.specs.Session.{HasHeard, HasJudged}
-use Rattle.pth_transcript.specs.Taking.{IsStarted, OtherStays, of_read}
+use Rattle.pth_filter.specs.Objects.{OtherStays, of_read}
+use Rattle.pth_transcript.specs.Taking.{IsStarted}
 use Rattle.pth_transcript.specs.declared.told.Told.{Told}
 use Rattle.pth_checker.proofs.session.Session.judge.Given as goal
 

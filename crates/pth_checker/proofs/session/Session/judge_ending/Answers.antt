@@ -15,6 +15,8 @@ returns-then-branch-clause-comes_to g c = λ content told read.
     (c.in_ok-is_over.ensures.over c.if-branch.true) ((c.if-not-fits.ensures (marks_of told) read.judges).0 refl)
 
 pub returns-else-branch-clause-comes_to : goal.returns-else-branch-clause-comes_to
-returns-else-branch-clause-comes_to g c = λ content told read.
-    goes_past_ending content _ c.args.self.now told c.args.ending.now c.saturating_add.result read
-    (c.saturating_add.ensures ∙ ap next_line c.lines-line.ensures) ((c.if-not-fits.ensures (marks_of told) read.judges).0 refl)
+returns-else-branch-clause-comes_to g c = λ content told read. (
+  goes_past_ending content _ c.args.self.now told c.args.ending.now c.saturating_add.result read
+      (c.saturating_add.ensures ∙ ap next_line c.lines-line.ensures) ((c.if-not-fits.ensures (marks_of told) read.judges).0 refl),
+  refl,
+)

@@ -1,7 +1,7 @@
 use Rattle.std.proofs.Common.{refl}
 use Rattle.pth_checker.proofs.Heard.{goes_wrong, not_read, read_as, read_of_same}
 use Rattle.pth_checker.proofs.Judging.{judged_read}
-use Rattle.pth_transcript.specs.Taking.{of_read}
+use Rattle.pth_filter.specs.Objects.{of_read}
 use Rattle.pth_transcript.specs.declared.reader.Part.TheVariants as part
 use Rattle.pth_checker.proofs.session.Session.step.Goals as goal
 

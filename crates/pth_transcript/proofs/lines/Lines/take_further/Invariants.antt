@@ -1,5 +1,6 @@
 use Rattle.std.proofs.Common.{◌≡◌, ◌-◌, ◌^◌, length, []}
-use Rattle.pth_transcript.specs.Taking.{IsStarted, OtherStays, Takes, ahead, of_read}
+use Rattle.pth_filter.specs.Objects.{OtherStays, of_read}
+use Rattle.pth_transcript.specs.Taking.{IsStarted, Takes, ahead}
 use Rattle.pth_transcript.proofs.lines.Lines.take_further.Given as goal
 
 abbrev pub invariant-pieces : goal.invariant-pieces

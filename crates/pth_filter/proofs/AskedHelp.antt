@@ -4,7 +4,7 @@ use Rattle.std.proofs.Math.ListN.{drop_of_length-le}
 use Rattle.std.specs.List.{slice_index_or}
 use Rattle.std.specs.Str.{bytes_eq}
 use Rattle.std.specs.Prelude.{codes, if◌then◌else◌}
-use Rattle.pth_transcript.specs.Help.{asks_help, is_help}
+use Rattle.pth_filter.specs.Help.{asks_help, is_help}
 
 -- what the words from a word on say: whether it is `--`, whether it asks for help, and what the words after it say
 abbrev by : Bool → Bool → Bool → Bool

@@ -3,15 +3,16 @@ use Rattle.std.proofs.Common.{ℕ, List, arith, inl, inr}
 use Rattle.pth_streams.specs.Faults.{Rose}
 use Rattle.pth_streams.specs.Pieces.{AppendsPart, AppendsPrefix, Received, WritesLine}
 use Rattle.pth_streams.proofs.Pieces.{all_of, part_is_prefix}
-use Rattle.pth_transcript.specs.FaultLines.{Reports, fault_line}
-use Rattle.pth_transcript.specs.Help.{Helps}
-use Rattle.pth_transcript.specs.declared.fault.Fault.{Fault}
-use Rattle.pth_transcript.specs.declared.fault.Fault.TheVariants as fault
+use Rattle.pth_filter.specs.Faults.{Reports}
+use Rattle.pth_print.specs.FaultLines.{fault_line}
+use Rattle.pth_filter.specs.Help.{Helps}
+use Rattle.pth_print.specs.declared.fault_line.Fault.{Fault}
+use Rattle.pth_print.specs.declared.fault_line.Fault.TheVariants as fault
 
 module _ (program help : List ℕ) (old new w x : Received) where
   -- `out` failed
   pub failed : (status : ℕ) → AppendsPart old.written new.written help → Rose old.faults new.faults
-      → Reports (fault_line program fault.WriteFault) 5 status w x → Helps program help status old new w x
+      → Reports program fault.WriteFault status w x → Helps program help status old new w x
   failed status part rose (inl h) = record {
     whole = λ e. absurd (let five = h.0 in omega (arith, e, five));
     write = λ e. (part, rose, h.1);
@@ -31,7 +32,7 @@ module _ (program help : List ℕ) (old new w x : Received) where
 
   -- memory ran out for writing
   pub ran_out : (status : ℕ) → AppendsPart old.written new.written help
-      → Reports (fault_line program fault.OutOfMemory) 7 status w x → Helps program help status old new w x
+      → Reports program fault.OutOfMemory status w x → Helps program help status old new w x
   ran_out status part (inl h) = record {
     whole = λ e. absurd (let seven = h.0 in omega (arith, e, seven));
     write = λ e. absurd (let seven = h.0 in omega (arith, e, seven));

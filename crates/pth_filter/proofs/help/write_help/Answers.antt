@@ -2,8 +2,8 @@ use Rattle.std.proofs.Common.{List, ℕ, Err, subst}
 use Rattle.pth_streams.specs.Faults.{CountsSink}
 use Rattle.pth_streams.specs.Pieces.{AppendsPart, received}
 use Rattle.pth_streams.specs.declared.sink.SinkErr.{SinkErr}
-use Rattle.pth_transcript.proofs.GivenHelp.{failed, ran_out}
-use Rattle.pth_transcript.proofs.help.write_help.Goals as goal
+use Rattle.pth_filter.proofs.GivenHelp.{failed, ran_out}
+use Rattle.pth_filter.proofs.help.write_help.Goals as goal
 
 pub returns-in-Err-Failed : goal.returns-in-Err-Failed
 returns-in-Err-Failed g c =

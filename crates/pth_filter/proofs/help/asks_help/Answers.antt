@@ -1,6 +1,6 @@
 use Rattle.std.proofs.Common.{◌∙◌, string_bytes, sym}
-use Rattle.pth_transcript.proofs.AskedHelp.{at_end, at_word, found, found_both}
-use Rattle.pth_transcript.proofs.help.asks_help.Goals as goal
+use Rattle.pth_filter.proofs.AskedHelp.{at_end, at_word, found, found_both}
+use Rattle.pth_filter.proofs.help.asks_help.Goals as goal
 
 pub returns-then-eq : goal.returns-then-eq
 returns-then-eq c =

@@ -2,9 +2,10 @@
 
 ghost use Rattle.std.specs.Prelude.{◌≡◌, map, string_bytes};
 ghost use Rattle.pth_streams.specs.Pieces.{received};
-ghost use Rattle.pth_transcript.specs.Help.{Helps, asks_help, is_help};
+ghost use Rattle.pth_filter.specs.Help.{Helps, asks_help, is_help};
 
-use crate::fault::{Fault, report_fault};
+use crate::finish::report_fault;
+use pth_print::fault_line::Fault;
 use pth_streams::sink::{Sink, SinkErr};
 use pth_streams::write_all::write_all;
 use std::alloc::Global;

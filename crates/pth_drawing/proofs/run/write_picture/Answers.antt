@@ -1,0 +1,30 @@
+use Rattle.std.proofs.Common.{List, ℕ, Some, Err, subst, sym}
+use Rattle.std.specs.Io.KnownBytes.{Appends}
+use Rattle.pth_drawing.proofs.Running.{drawn, unfinished}
+use Rattle.pth_drawing.specs.Draw.{draw}
+use Rattle.pth_drawing.specs.Words.{asked_of}
+use Rattle.pth_filter.specs.Answers.{Ran}
+use Rattle.pth_print.specs.declared.fault_line.Fault.{Fault}
+use Rattle.pth_streams.specs.Inputs.{inputs}
+use Rattle.pth_streams.specs.Pieces.{AppendsPart, received}
+use Rattle.pth_streams.specs.Scene.{scene}
+use Rattle.pth_drawing.proofs.run.write_picture.Goals as goal
+
+pub returns-in-Ok-clause-ran : goal.returns-in-Ok-clause-ran
+returns-in-Ok-clause-ran g c =
+    let ins = inputs (g.S.Source.left c.args.input.now) (g.S.Source.faults c.args.input.now) (g.F.Files.left c.args.files.now) (g.F.Files.held c.args.files.now) (g.F.Files.faults c.args.files.now) in
+    let later = inputs (g.S.Source.left c.read_picture.new.input) (g.S.Source.faults c.read_picture.new.input) (g.F.Files.left c.read_picture.new.files) (g.F.Files.held c.read_picture.new.files) (g.F.Files.faults c.read_picture.new.files) in
+    let out = received (g.O.Sink.written c.args.out.now) (g.O.Sink.faults c.args.out.now) in
+    let after = received (g.O.Sink.written c.write_all.new.out) (g.O.Sink.faults c.write_all.new.out) in
+    drawn (asked_of c.args.choice.now) ins later out after c.in_ok-text.text c.in_ok-text.ensures.made c.in_ok-text.ensures.counts
+    (subst (λ (t : List ℕ). Appends out.written after.written t) c.as_slice.ensures c.in-Ok.ensures.whole) c.in-Ok.ensures.counts
+
+pub returns-clause-ran : goal.returns-clause-ran
+returns-clause-ran g c =
+    let ins = inputs (g.S.Source.left c.args.input.now) (g.S.Source.faults c.args.input.now) (g.F.Files.left c.args.files.now) (g.F.Files.held c.args.files.now) (g.F.Files.faults c.args.files.now) in
+    let later = inputs (g.S.Source.left c.read_picture.new.input) (g.S.Source.faults c.read_picture.new.input) (g.F.Files.left c.read_picture.new.files) (g.F.Files.held c.read_picture.new.files) (g.F.Files.faults c.read_picture.new.files) in
+    let out = received (g.O.Sink.written c.args.out.now) (g.O.Sink.faults c.args.out.now) in
+    let after = received (g.O.Sink.written c.write_all.new.out) (g.O.Sink.faults c.write_all.new.out) in
+    subst (λ (f : Fault). Ran draw (Some (asked_of c.args.choice.now)) (scene ins out) (scene later after) (Err f)) (sym c.fault_of_write.ensures)
+    (unfinished (asked_of c.args.choice.now) ins later out after c.in_ok-text.text c.in_ok-text.ensures.made c.in_ok-text.ensures.counts c.in-Err.e
+    (subst (λ (t : List ℕ). AppendsPart out.written after.written t) c.as_slice.ensures c.in-Err.ensures.part) c.in-Err.ensures.counts)
