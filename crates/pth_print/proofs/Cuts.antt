@@ -1,12 +1,15 @@
 -- Beginnings of texts that are joined.
-use Rattle.std.proofs.Common.{◌≡◌, ◌∙◌, ℕ, ◌<◌, ◌+◌, List, ◌∷◌, ◌++◌, sym, ap, subst, append_assoc, take, drop, length, get_or, codes, flat_map, Result, Err}
+use Rattle.std.proofs.Common.{◌≡◌, ◌∙◌, ℕ, ◌<◌, ◌+◌, List, ◌∷◌, ◌++◌, sym, ap, subst, append_assoc, take, drop, length, get_or, codes, flat_map, map, Result, Err}
 use Rattle.std.proofs.lemmas.Result.{on_ok_weaker, on_err_weaker}
 use Rattle.std.proofs.lemmas.Grind.{flat_map-append}
 use Rattle.std.proofs.lemmas.List.{take-append-drop, drop_more}
+use Rattle.std.proofs.lemmas.List.Folds.{flat_map-map}
 use Rattle.pth_base.specs.Cut.{IsCut}
 use Rattle.pth_base.proofs.Cuts.{cut_first, cut_then}
 use Rattle.pth_print.specs.Adding.{AddsText}
 use Rattle.pth_print.specs.SpacedWords.{spaced, joined_words}
+use Rattle.pth_print.specs.WordTexts.{phrase_of, word_text}
+use Rattle.pth_print.specs.declared.word.Word.{Word}
 
 -- texts up to one, this one, and those after it
 flat_map_at : {A : Type 0} (f : A → List ℕ) (xs : List A) (i : ℕ) (d : A) → i < length xs → flat_map f (take i xs) ++ (f (get_or xs i d) ++ flat_map f (drop (i + 1) xs)) ≡ flat_map f xs
@@ -46,7 +49,13 @@ pub joined_then : {T E : Type 0} (old mid new first : List ℕ) (words others : 
 joined_then old mid new first words others result e a =
     adds_same old new _ _ result (append_assoc first (spaced words) (spaced others) ∙ ap (λ t. first ++ t) (sym (spaced_append words others))) (adds_then old mid new (first ++ spaced words) (spaced others) result e a)
 
--- an error in words, where others follow
-pub spaced_cut : {T E : Type 0} (old new : List ℕ) (words others : List (List ℕ)) (result : Result T E) (e : E) → result ≡ Err e → IsCut old new (spaced words) → AddsText old new result (spaced (words ++ others))
-spaced_cut old new words others result e is c =
-    adds_same old new _ _ result (sym (spaced_append words others)) (adds_cut old new (spaced words) (spaced others) result e is c)
+-- an error in a first word after a space
+pub first_cut : {T E : Type 0} (old new text first : List ℕ) (words : List Word) (result : Result T E) (e : E) → result ≡ Err e → text ≡ first → IsCut old new (codes " " ++ text) → AddsText old new result (spaced (first ∷ map word_text words))
+first_cut old new text first words result e is same cut =
+    adds_cut old new (codes " " ++ first) (spaced (map word_text words)) result e is (subst (λ t. IsCut old new (codes " " ++ t)) same cut)
+
+-- words after a first word, each after a space
+pub first_then : {T E : Type 0} (old mid new text first : List ℕ) (given words : List Word) (result : Result T E) → text ≡ first → given ≡ words → mid ≡ old ++ (codes " " ++ text) → AddsText mid new result (phrase_of given) → AddsText old new result (spaced (first ∷ map word_text words))
+first_then old mid new text first given words result same these at a =
+    adds_then old mid new (codes " " ++ first) (spaced (map word_text words)) result (at ∙ ap (λ t. old ++ (codes " " ++ t)) same)
+    (adds_same mid new _ _ result (ap phrase_of these ∙ sym (flat_map-map (λ (w : List ℕ). codes " " ++ w) word_text words)) a)

@@ -2,11 +2,10 @@
 use Rattle.std.specs.Prelude.{ℕ, List, [], ◌∷◌, Option, Some, None, codes, map}
 use Rattle.pth_base.specs.declared.call.Call.{Call}
 use Rattle.pth_base.specs.declared.call.Call.TheVariants as call
-use Rattle.pth_base.specs.declared.event.EvLine.{EvLine}
 use Rattle.pth_spelling.specs.Syntax.{syntax_of}
 use Rattle.pth_print.specs.ArgWords.{arg_word}
 use Rattle.pth_print.specs.Args.{Arg}
-use Rattle.pth_print.specs.Parts.{Parts, event_args, parts_of}
+use Rattle.pth_print.specs.Parts.{Parts, parts_of}
 use Rattle.pth_print.specs.WordTexts.{number_word}
 
 -- operands
@@ -23,7 +22,3 @@ abbrev pub call_words : Call → List (List ℕ)
 call_words call.Plain = codes "plain" ∷ []
 call_words (call.Note v) = codes "note" ∷ number_word v ∷ []
 call_words c = words_of (parts_of c)
-
--- an event line
-abbrev pub event_line_words : EvLine → List (List ℕ)
-event_line_words line = arg_words (event_args line)

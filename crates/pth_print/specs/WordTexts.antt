@@ -1,8 +1,9 @@
 -- How words are spelled.
-use Rattle.std.specs.Prelude.{ℕ, ℤ, List, ◌++◌, codes, decimal, flat_map}
+use Rattle.std.specs.Prelude.{ℕ, ℤ, List, ◌∷◌, ◌++◌, codes, decimal, flat_map, map, take}
 use Rattle.std.specs.Fmt.{signed_decimal}
 use Rattle.pth_text.specs.Hex.{hex_of}
 use Rattle.pth_print.specs.Sets.{set_word}
+use Rattle.pth_print.specs.declared.parts.Parts.{Parts}
 use Rattle.pth_print.specs.declared.word.Word.{Word}
 use Rattle.pth_print.specs.declared.word.Word.TheVariants as word
 
@@ -35,3 +36,7 @@ word_text (word.Hex bytes) = hex_word bytes.now
 -- words, each after a space
 abbrev pub phrase_of : List Word → List ℕ
 phrase_of words = flat_map (λ w. codes " " ++ word_text w) words
+
+-- the word of a call in parts, and its operands
+abbrev pub spelled : Parts → List (List ℕ)
+spelled p = p.word.now ∷ map word_text (take p.count p.operands)

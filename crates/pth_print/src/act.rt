@@ -8,7 +8,6 @@ ghost use Rattle.pth_print.specs.WordTexts.{number_word};
 ghost use Rattle.pth_print.specs.SpacedWords.{spaced};
 
 use crate::answer::add_answer_after;
-use crate::call_shape::add_one;
 use crate::word::Word::{Cell, Number, Plain};
 use crate::word::add_words;
 use pth_base::act::Act;
@@ -38,7 +37,7 @@ pub fn add_act(act: &Act, answer: &Answer, out: &mut Text) -> Result<(), OutOfMe
     ensures { AddsText out.old out.new result (spaced (acted_words act.now answer.now)) }
 {
     match act {
-        Act::Note(v) => add_one(b"note", v, out),
+        Act::Note(v) => add_words(&[Plain(b"note"), Number(v)], out),
         Act::Set(cell, v) => add_words(&[Plain(b"set"), Cell(*cell), Number(v)], out),
         Act::Release(m) => {
             add_answer_after(&[Plain(b"release"), Number(m), Plain(b"=")], answer, out)

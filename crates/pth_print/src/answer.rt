@@ -4,7 +4,7 @@ ghost use Rattle.pth_print.specs.Adding.{AddsText};
 ghost use Rattle.pth_print.specs.SpacedWords.{spaced};
 ghost use Rattle.pth_print.specs.WordTexts.{phrase_of};
 ghost use Rattle.pth_print.specs.AnswerWords.{answer_words, errno_word};
-ghost use Rattle.std.specs.Prelude.{◌≡◌, ◌++◌};
+ghost use Rattle.std.specs.Prelude.{◌≡◌, ◌∷◌, ◌++◌, codes};
 
 use crate::word::Word::{Hex, Natural, Number, Plain, Set};
 use crate::word::{Word, add_words};
@@ -58,6 +58,14 @@ fn add_answer(answer: &Answer, out: &mut Text) -> Result<(), OutOfMemory>
         }
     };
     add_words(&[word], out)
+}
+
+/// Adds `=` and the words of an answer, each after a space.
+pub fn add_equals(answer: &Answer, out: &mut Text) -> Result<(), OutOfMemory>
+    ensures { AddsText out.old out.new result (spaced (codes "=" ∷ answer_words answer.now)) }
+{
+    out.push(b" =")?;
+    add_answer(answer, out)
 }
 
 /// Adds words and those of an answer, each after a space.

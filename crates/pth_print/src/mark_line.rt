@@ -10,7 +10,7 @@ ghost use Rattle.pth_print.specs.AnswerWords.{answer_words};
 ghost use Rattle.pth_print.specs.MarkLines.{acted_words, mark_words, mark_line};
 
 use crate::act::add_act;
-use crate::answer::add_answer_after;
+use crate::answer::add_equals;
 use crate::call::add_call;
 use crate::mark_shape::{
     add_audit, add_moved, add_object, add_run, add_thread_and, add_turn, add_value, add_withdrew,
@@ -47,7 +47,7 @@ fn add_answered(tid: Tid, call: &Call, answer: &Answer, out: &mut Text) -> Resul
     ensures { AddsText out.old out.new result (joined_words (tid_word tid.0 ∷ (call_words call.now ++ codes "=" ∷ answer_words answer.now))) }
 {
     add_call_of(tid, call, out)?;
-    add_answer_after(&[Plain(b"=")], answer, out)
+    add_equals(answer, out)
 }
 
 /// Adds the thread that runs a handler, with an act of the handler.

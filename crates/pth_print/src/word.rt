@@ -1,6 +1,6 @@
 //! Words of lines.
 
-ghost use Rattle.std.specs.Prelude.{◌++◌};
+ghost use Rattle.std.specs.Prelude.{◌++◌, codes};
 ghost use Rattle.pth_print.specs.Adding.{AddsText};
 ghost use Rattle.pth_print.specs.WordTexts.{word_text, phrase_of};
 
@@ -47,6 +47,14 @@ pub fn add_word(word: &Word<'_>, out: &mut Text) -> Result<(), OutOfMemory>
             out.hex(bytes)
         }
     }
+}
+
+/// Adds a word as it is after a space.
+pub fn add_text(text: &str, out: &mut Text) -> Result<(), OutOfMemory>
+    ensures { AddsText out.old out.new result (codes " " ++ text.now) }
+{
+    out.push(b" ")?;
+    out.push(text.as_bytes())
 }
 
 /// Adds words, each after a space.

@@ -2,6 +2,7 @@
 
 ghost use Rattle.std.specs.Prelude.{◌≡◌};
 ghost use Rattle.pth_spelling.specs.Keywords.{call_word, entry_word, keyword_of, new_event_word, plain_word};
+ghost use Rattle.pth_spelling.specs.Syntax.{syntax_of};
 
 use crate::keyword::{
     AttributeWord, BarrierWord, CallWord, CancellationWord, CleanupWord, ConditionWord, EntryWord,
@@ -10,107 +11,115 @@ use crate::keyword::{
 };
 use crate::named::named;
 
-static CALL_WORDS: [(&str, CallWord); 75] = [
-    ("kill", CallWord::Library(LibraryWord::Kill)),
-    ("ctrl", CallWord::Library(LibraryWord::Ctrl)),
-    ("attr_new", CallWord::Attributes(AttributeWord::New)),
-    ("attr_of", CallWord::Attributes(AttributeWord::Of)),
-    ("attr_init", CallWord::Attributes(AttributeWord::Init)),
-    ("attr_set", CallWord::Attributes(AttributeWord::Set)),
-    ("attr_get", CallWord::Attributes(AttributeWord::Get)),
-    ("attr_destroy", CallWord::Attributes(AttributeWord::Destroy)),
-    ("spawn", CallWord::Threads(ThreadWord::Spawn)),
-    ("once", CallWord::Threads(ThreadWord::Once)),
-    ("self", CallWord::Threads(ThreadWord::SelfTid)),
-    ("suspend", CallWord::Threads(ThreadWord::Suspend)),
-    ("resume", CallWord::Threads(ThreadWord::Resume)),
-    ("yield", CallWord::Threads(ThreadWord::Yield)),
-    ("nap", CallWord::Threads(ThreadWord::Nap)),
-    ("wait", CallWord::Threads(ThreadWord::Wait)),
-    ("cancel", CallWord::Threads(ThreadWord::Cancel)),
-    ("abort", CallWord::Threads(ThreadWord::Abort)),
-    ("join", CallWord::Threads(ThreadWord::Join)),
-    ("exit", CallWord::Threads(ThreadWord::Exit)),
-    ("fdmode", CallWord::Utilities(UtilityWord::Fdmode)),
-    ("timeout", CallWord::Utilities(UtilityWord::Timeout)),
-    (
-        "cancel_point",
-        CallWord::Cancellation(CancellationWord::Point),
-    ),
-    (
-        "cancel_state",
-        CallWord::Cancellation(CancellationWord::State),
-    ),
-    ("ev_fd", CallWord::Events(EventWord::New(NewEventWord::Fd))),
-    (
-        "ev_select",
-        CallWord::Events(EventWord::New(NewEventWord::Select)),
-    ),
-    (
-        "ev_time",
-        CallWord::Events(EventWord::New(NewEventWord::Time)),
-    ),
-    (
-        "ev_msg",
-        CallWord::Events(EventWord::New(NewEventWord::Msg)),
-    ),
-    (
-        "ev_cond",
-        CallWord::Events(EventWord::New(NewEventWord::Cond)),
-    ),
-    (
-        "ev_tid",
-        CallWord::Events(EventWord::New(NewEventWord::Tid)),
-    ),
-    (
-        "ev_func",
-        CallWord::Events(EventWord::New(NewEventWord::Func)),
-    ),
-    ("chain", CallWord::Events(EventWord::Chain)),
-    ("ev_concat", CallWord::Events(EventWord::Concat)),
-    ("ev_isolate", CallWord::Events(EventWord::Isolate)),
-    ("ev_walk", CallWord::Events(EventWord::Walk)),
-    ("ev_status", CallWord::Events(EventWord::Status)),
-    ("ev_kind", CallWord::Events(EventWord::Kind)),
-    ("ev_free", CallWord::Events(EventWord::Free)),
-    ("key_create", CallWord::Keys(KeyStorageWord::Create)),
-    ("key_delete", CallWord::Keys(KeyStorageWord::Delete)),
-    ("key_set", CallWord::Keys(KeyStorageWord::Set)),
-    ("key_get", CallWord::Keys(KeyStorageWord::Get)),
-    ("port_create", CallWord::Ports(PortWord::Create)),
-    ("port_find", CallWord::Ports(PortWord::Find)),
-    ("port_pending", CallWord::Ports(PortWord::Pending)),
-    ("port_put", CallWord::Ports(PortWord::Put)),
-    ("port_get", CallWord::Ports(PortWord::Get)),
-    ("reply", CallWord::Ports(PortWord::Reply)),
-    ("port_destroy", CallWord::Ports(PortWord::Destroy)),
-    ("cleanup_push", CallWord::Cleanups(CleanupWord::Push)),
-    ("cleanup_pop", CallWord::Cleanups(CleanupWord::Pop)),
-    ("mutex_init", CallWord::Mutexes(MutexWord::Init)),
-    ("mutex_acquire", CallWord::Mutexes(MutexWord::Acquire)),
-    ("mutex_release", CallWord::Mutexes(MutexWord::Release)),
-    ("rw_init", CallWord::Rwlocks(RwlockWord::Init)),
-    ("rw_acquire", CallWord::Rwlocks(RwlockWord::Acquire)),
-    ("rw_release", CallWord::Rwlocks(RwlockWord::Release)),
-    ("cond_init", CallWord::Conditions(ConditionWord::Init)),
-    ("cond_await", CallWord::Conditions(ConditionWord::Await)),
-    ("cond_notify", CallWord::Conditions(ConditionWord::Notify)),
-    ("barrier_init", CallWord::Barriers(BarrierWord::Init)),
-    ("barrier_reach", CallWord::Barriers(BarrierWord::Reach)),
-    ("usleep", CallWord::Io(IoWord::Usleep)),
-    ("sleep", CallWord::Io(IoWord::Sleep)),
-    ("read", CallWord::Io(IoWord::Read)),
-    ("read_ev", CallWord::Io(IoWord::ReadEv)),
-    ("write", CallWord::Io(IoWord::Write)),
-    ("write_ev", CallWord::Io(IoWord::WriteEv)),
-    ("accept", CallWord::Io(IoWord::Accept)),
-    ("accept_ev", CallWord::Io(IoWord::AcceptEv)),
-    ("connect", CallWord::Io(IoWord::Connect)),
-    ("connect_ev", CallWord::Io(IoWord::ConnectEv)),
-    ("select", CallWord::Io(IoWord::Select)),
-    ("select_ev", CallWord::Io(IoWord::SelectEv)),
-    ("close", CallWord::Io(IoWord::Close)),
-];
+/// The word of each call, in rows that another macro makes something of.
+macro_rules! calls {
+    ($rows:ident $($given:tt)*) => {
+        $rows! {
+            [$($given)*]
+            "kill" => Library(LibraryWord::Kill),
+            "ctrl" => Library(LibraryWord::Ctrl),
+            "attr_new" => Attributes(AttributeWord::New),
+            "attr_of" => Attributes(AttributeWord::Of),
+            "attr_init" => Attributes(AttributeWord::Init),
+            "attr_set" => Attributes(AttributeWord::Set),
+            "attr_get" => Attributes(AttributeWord::Get),
+            "attr_destroy" => Attributes(AttributeWord::Destroy),
+            "spawn" => Threads(ThreadWord::Spawn),
+            "once" => Threads(ThreadWord::Once),
+            "self" => Threads(ThreadWord::SelfTid),
+            "suspend" => Threads(ThreadWord::Suspend),
+            "resume" => Threads(ThreadWord::Resume),
+            "yield" => Threads(ThreadWord::Yield),
+            "nap" => Threads(ThreadWord::Nap),
+            "wait" => Threads(ThreadWord::Wait),
+            "cancel" => Threads(ThreadWord::Cancel),
+            "abort" => Threads(ThreadWord::Abort),
+            "join" => Threads(ThreadWord::Join),
+            "exit" => Threads(ThreadWord::Exit),
+            "fdmode" => Utilities(UtilityWord::Fdmode),
+            "timeout" => Utilities(UtilityWord::Timeout),
+            "cancel_point" => Cancellation(CancellationWord::Point),
+            "cancel_state" => Cancellation(CancellationWord::State),
+            "ev_fd" => Events(EventWord::New(NewEventWord::Fd)),
+            "ev_select" => Events(EventWord::New(NewEventWord::Select)),
+            "ev_time" => Events(EventWord::New(NewEventWord::Time)),
+            "ev_msg" => Events(EventWord::New(NewEventWord::Msg)),
+            "ev_cond" => Events(EventWord::New(NewEventWord::Cond)),
+            "ev_tid" => Events(EventWord::New(NewEventWord::Tid)),
+            "ev_func" => Events(EventWord::New(NewEventWord::Func)),
+            "chain" => Events(EventWord::Chain),
+            "ev_concat" => Events(EventWord::Concat),
+            "ev_isolate" => Events(EventWord::Isolate),
+            "ev_walk" => Events(EventWord::Walk),
+            "ev_status" => Events(EventWord::Status),
+            "ev_kind" => Events(EventWord::Kind),
+            "ev_free" => Events(EventWord::Free),
+            "key_create" => Keys(KeyStorageWord::Create),
+            "key_delete" => Keys(KeyStorageWord::Delete),
+            "key_set" => Keys(KeyStorageWord::Set),
+            "key_get" => Keys(KeyStorageWord::Get),
+            "port_create" => Ports(PortWord::Create),
+            "port_find" => Ports(PortWord::Find),
+            "port_pending" => Ports(PortWord::Pending),
+            "port_put" => Ports(PortWord::Put),
+            "port_get" => Ports(PortWord::Get),
+            "reply" => Ports(PortWord::Reply),
+            "port_destroy" => Ports(PortWord::Destroy),
+            "cleanup_push" => Cleanups(CleanupWord::Push),
+            "cleanup_pop" => Cleanups(CleanupWord::Pop),
+            "mutex_init" => Mutexes(MutexWord::Init),
+            "mutex_acquire" => Mutexes(MutexWord::Acquire),
+            "mutex_release" => Mutexes(MutexWord::Release),
+            "rw_init" => Rwlocks(RwlockWord::Init),
+            "rw_acquire" => Rwlocks(RwlockWord::Acquire),
+            "rw_release" => Rwlocks(RwlockWord::Release),
+            "cond_init" => Conditions(ConditionWord::Init),
+            "cond_await" => Conditions(ConditionWord::Await),
+            "cond_notify" => Conditions(ConditionWord::Notify),
+            "barrier_init" => Barriers(BarrierWord::Init),
+            "barrier_reach" => Barriers(BarrierWord::Reach),
+            "usleep" => Io(IoWord::Usleep),
+            "sleep" => Io(IoWord::Sleep),
+            "read" => Io(IoWord::Read),
+            "read_ev" => Io(IoWord::ReadEv),
+            "write" => Io(IoWord::Write),
+            "write_ev" => Io(IoWord::WriteEv),
+            "accept" => Io(IoWord::Accept),
+            "accept_ev" => Io(IoWord::AcceptEv),
+            "connect" => Io(IoWord::Connect),
+            "connect_ev" => Io(IoWord::ConnectEv),
+            "select" => Io(IoWord::Select),
+            "select_ev" => Io(IoWord::SelectEv),
+            "close" => Io(IoWord::Close),
+        }
+    };
+}
+
+macro_rules! table {
+    ([] $($text:literal => $facility:ident($($word:tt)*),)*) => {
+        [$(($text, CallWord::$facility($($word)*)),)*]
+    };
+}
+
+macro_rules! text {
+    ([$call:tt] $($text:literal => $facility:ident($($word:tt)*),)*) => {
+        match $call {
+            $(CallWord::$facility($($word)*) => $text,)*
+        }
+    };
+}
+
+static CALL_WORDS: [(&str, CallWord); 75] = calls!(table);
+
+impl CallWord {
+    /// How the word is spelled.
+    #[inline(always)]
+    pub fn text(self) -> &'static str
+        ensures { result.now ≡ (syntax_of self).text }
+    {
+        calls!(text self)
+    }
+}
 
 /// The call that a word names.
 #[tactic(auto, unfolding(crate::specs::Keywords::call_word))]
