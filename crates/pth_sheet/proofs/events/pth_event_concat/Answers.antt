@@ -1,0 +1,14 @@
+use Rattle.std.proofs.Common.{refl, ◌&&◌, ◌||◌}
+use Rattle.pth_numbered.specs.Operands.{number}
+use Rattle.pth_ring.specs.Ring.{ring_holds}
+use Rattle.pth_ring.specs.Rings.{is_event, is_claimed}
+use Rattle.pth_model.specs.Calls.{begun}
+use Rattle.pth_model.specs.Resources.{told, answer_told}
+use Rattle.pth_model.specs.Rows.{row_of}
+use Rattle.pth_sheet.proofs.Cases.{by_cases}
+use Rattle.pth_sheet.proofs.events.pth_event_concat.Goals as goal
+
+pub returns : goal.returns
+unfolding begun row_of told answer_told
+returns p c = λ s t e g.
+    by_cases (is_event s.control.events (number e) && is_event s.control.events (number g)) (λ b0. by_cases (ring_holds (number e) (s.control.events.rings (number g))) (λ b1. rw (b0, b1) refl) (λ b1. by_cases (is_claimed s.control.events (number e) || is_claimed s.control.events (number g)) (λ b2. rw (b0, b1, b2) refl) (λ b2. rw (b0, b1, b2) refl))) (λ b0. rw (b0) refl)

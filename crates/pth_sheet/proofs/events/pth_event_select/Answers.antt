@@ -1,0 +1,12 @@
+use Rattle.std.proofs.Common.{refl}
+use Rattle.pth_ring.specs.Rings.{is_full_of_events}
+use Rattle.pth_model.specs.Calls.{begun}
+use Rattle.pth_model.specs.Resources.{told, answer_told}
+use Rattle.pth_model.specs.Rows.{row_of}
+use Rattle.pth_sheet.proofs.Cases.{by_cases}
+use Rattle.pth_sheet.proofs.events.pth_event_select.Goals as goal
+
+pub returns : goal.returns
+unfolding begun row_of told answer_told
+returns p c = λ s t r w x.
+    by_cases (is_full_of_events s.control.events) (λ b0. rw (b0) refl) (λ b0. rw (b0) refl)

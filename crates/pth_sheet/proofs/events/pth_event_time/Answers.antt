@@ -1,0 +1,13 @@
+use Rattle.std.proofs.Common.{refl}
+use Rattle.pth_ring.specs.Rings.{is_full_of_events}
+use Rattle.pth_model.specs.Calls.{begun}
+use Rattle.pth_model.specs.Resources.{told, answer_told}
+use Rattle.pth_model.specs.Rows.{row_of}
+use Rattle.pth_model.specs.Times.{is_negative}
+use Rattle.pth_sheet.proofs.Cases.{by_cases}
+use Rattle.pth_sheet.proofs.events.pth_event_time.Goals as goal
+
+pub returns : goal.returns
+unfolding begun row_of told answer_told
+returns p c = λ s t n.
+    by_cases (is_negative n) (λ b0. rw (b0) refl) (λ b0. by_cases (is_full_of_events s.control.events) (λ b1. rw (b0, b1) refl) (λ b1. rw (b0, b1) refl))

@@ -1,0 +1,21 @@
+use Rattle.std.proofs.Common.{refl, ◌==◌, not, ◌||◌}
+use Rattle.pth_numbered.specs.Operands.{is_zero}
+use Rattle.pth_lock.specs.Mutexes.{levels_of, level_limit, is_anothers}
+use Rattle.pth_model.specs.Calls.{tried_again, begun, gone_on}
+use Rattle.pth_model.specs.Cancellation.{may_be_canceled}
+use Rattle.pth_model.specs.Mutexes.{is_free}
+use Rattle.pth_model.specs.Resources.{told, answer_told}
+use Rattle.pth_model.specs.Rows.{row_of}
+use Rattle.pth_sheet.specs.States.{is_no_ring_of, is_mutex, mutex_of, ring_is_in_use, has_event_come}
+use Rattle.pth_sheet.proofs.Cases.{by_cases}
+use Rattle.pth_sheet.proofs.mutexes.pth_mutex_acquire.Goals as goal
+
+pub returns-clause-begins : goal.returns-clause-begins
+unfolding begun row_of told answer_told
+returns-clause-begins p c = λ s t m v e.
+    by_cases (is_no_ring_of s e) (λ b0. rw (b0) refl) (λ b0. by_cases (is_mutex s m) (λ b1. by_cases (levels_of t (mutex_of s m) == level_limit) (λ b2. rw (b0, b1, b2) refl) (λ b2. by_cases (is_anothers t (mutex_of s m)) (λ b3. by_cases (not (is_zero v) || ring_is_in_use s e) (λ b4. rw (b0, b1, b2, b3, b4) refl) (λ b4. rw (b0, b1, b2, b3, b4) refl)) (λ b3. rw (b0, b1, b2, b3) refl))) (λ b1. rw (b0, b1) refl))
+
+pub returns-clause-goes_on : goal.returns-clause-goes_on
+unfolding gone_on tried_again row_of told answer_told
+returns-clause-goes_on p c = λ s t m v e here.
+    by_cases (may_be_canceled s.control t) (λ b0. rw (here, b0, here) refl) (λ b0. by_cases (has_event_come s e) (λ b1. by_cases (is_free s m) (λ b2. rw (here, b0, here, b1, b2) refl) (λ b2. rw (here, b0, here, b1, b2) refl)) (λ b1. by_cases (is_free s m) (λ b2. rw (here, b0, here, b1, b2) refl) (λ b2. rw (here, b0, here, b1, b2) refl)))

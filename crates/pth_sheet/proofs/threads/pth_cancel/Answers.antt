@@ -1,0 +1,17 @@
+use Rattle.std.proofs.Common.{refl, ◌||◌}
+use Rattle.pth_numbered.specs.Operands.{◌is◌}
+use Rattle.pth_model.specs.Calls.{begun}
+use Rattle.pth_model.specs.Cancellation.{is_asynchronous}
+use Rattle.pth_model.specs.Living.{is_dead}
+use Rattle.pth_model.specs.Resources.{told, answer_told}
+use Rattle.pth_model.specs.Rows.{row_of}
+use Rattle.pth_model.specs.State.{main}
+use Rattle.pth_model.specs.ThreadControl.{is_known}
+use Rattle.pth_sheet.specs.States.{thread_of}
+use Rattle.pth_sheet.proofs.Cases.{by_cases}
+use Rattle.pth_sheet.proofs.threads.pth_cancel.Goals as goal
+
+pub returns : goal.returns
+unfolding begun row_of told answer_told
+returns p c = λ s t n.
+    by_cases (n is t) (λ b0. rw (b0) refl) (λ b0. by_cases (is_known s.control n) (λ b1. by_cases (n is main || is_dead (thread_of s n).state) (λ b2. rw (b0, b1, b2) refl) (λ b2. by_cases (is_asynchronous (thread_of s n).cancel) (λ b3. rw (b0, b1, b2, b3) refl) (λ b3. rw (b0, b1, b2, b3) refl))) (λ b1. rw (b0, b1) refl))

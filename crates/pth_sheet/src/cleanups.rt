@@ -1,0 +1,34 @@
+//! Cleanup handlers: `pth_cleanup_push`, `pth_cleanup_pop`.
+
+ghost use Rattle.std.specs.Prelude.{ℕ, ℤ, ◌≡◌, None, Some};
+ghost use Rattle.pth_base.specs.declared.call.Call.TheVariants as call;
+ghost use Rattle.pth_base.specs.declared.errno.Errno.TheVariants.{EAGAIN, EINVAL};
+ghost use Rattle.pth_numbered.specs.Operands.{is_zero};
+ghost use Rattle.pth_store.specs.Cleanups.{is_full_stack, with_top, pop_answer, PushedHandler, top_taken};
+ghost use Rattle.pth_model.specs.Acts.{runs_handler};
+ghost use Rattle.pth_model.specs.Resources.{handler};
+ghost use Rattle.pth_model.specs.State.{State};
+ghost use Rattle.pth_sheet.specs.Outcomes.{Begins, refused, ◌when◌otherwise◌, ◌then◌, returns, ◌before◌};
+ghost use Rattle.pth_sheet.specs.States.{cleanups_of, cleanups_become};
+
+use pth_base::program::Program;
+
+/// `pth_cleanup_push` puts a cleanup handler on top of those of the calling thread.
+pub fn pth_cleanup_push<P: Program>()
+    ensures { (s : State P P.State P.Shared) (t : ℕ) (h v : ℤ) →
+        Begins P.functions s t (call.CleanupPush h v) (
+        refused EAGAIN when is_full_stack (cleanups_of s t) otherwise
+        cleanups_become (with_top t (handler h, v)) then returns 1) }
+{}
+
+/// `pth_cleanup_pop` takes the top cleanup handler of the calling thread away, and runs it, unless v is 0.
+pub fn pth_cleanup_pop<P: Program>()
+    ensures none { (s : State P P.State P.Shared) (t : ℕ) (v : ℤ) →
+        pop_answer (cleanups_of s) t ≡ None →
+        Begins P.functions s t (call.CleanupPop v) (refused EINVAL) }
+    ensures popped { (s : State P P.State P.Shared) (t : ℕ) (v : ℤ) (x : PushedHandler) →
+        pop_answer (cleanups_of s) t ≡ Some x →
+        Begins P.functions s t (call.CleanupPop v) (
+        cleanups_become (top_taken t) then returns 1 when is_zero v otherwise
+        runs_handler P.functions t x.0 x.1 before cleanups_become (top_taken t) then returns 1) }
+{}
