@@ -3,3 +3,4 @@ pub mod RowLemmas
 pub mod KernelReadable
 pub mod KernelRanges
 pub mod Readable
+pub mod Fine

@@ -9,13 +9,13 @@ ghost use Rattle.pth_spelling.specs.Texts.{texts};
 use crate::section::Section;
 use crate::shape::{Shape, shape_of};
 use pth_spelling::form::Form;
-use pth_spelling::rules::wrong;
+use pth_spelling::rules::{are_fine, wrong};
 use pth_spelling::start::Start;
 use pth_text::rule::Rule;
 
-/// The first rule that words break whose forms are known.
+/// The first rule that words break whose forms are known, asked rule by rule.
 #[tactic(auto, unfolding(crate::specs::Shapes::words_break))]
-fn forms_fault(forms: &[Form], words: &[&[u8]]) -> Option<Rule>
+fn first_fault(forms: &[Form], words: &[&[u8]]) -> Option<Rule>
     ensures { result ≡ find (λ r. words_break r (Asks forms.now (texts words.now))) word_rules }
 {
     if wrong(Rule::Word, forms, words) {
@@ -29,6 +29,19 @@ fn forms_fault(forms: &[Form], words: &[&[u8]]) -> Option<Rule>
     } else {
         None
     }
+}
+
+/// The first rule that words break whose forms are known.
+fn forms_fault(forms: &[Form], words: &[&[u8]]) -> Option<Rule>
+    ensures { result ≡ find (λ r. words_break r (Asks forms.now (texts words.now))) word_rules }
+{
+    if forms.len() != words.len() {
+        return first_fault(forms, words);
+    }
+    if are_fine(forms, words) {
+        return None;
+    }
+    first_fault(forms, words)
 }
 
 /// The first of the rules on words that the words of a line break, by how it begins.

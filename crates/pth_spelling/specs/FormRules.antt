@@ -1,5 +1,5 @@
 -- The rules that words break by their forms.
-use Rattle.std.specs.Prelude.{ℕ, Bool, true, false, ◌||◌, not, List, [], ◌∷◌, codes, is_some, drop, option_and_then}
+use Rattle.std.specs.Prelude.{ℕ, Bool, true, false, ◌&&◌, ◌||◌, not, List, [], ◌∷◌, codes, is_some, drop, option_and_then}
 use Rattle.std.specs.Str.{bytes_eq}
 use Rattle.pth_text.specs.Hex.{hex_bytes}
 use Rattle.pth_text.specs.Number.{numeral_value}
@@ -58,3 +58,13 @@ unfoldable pub wrong : Rule → List Form → List (List ℕ) → Bool
 wrong r [] ws = false
 wrong r (f ∷ fs) [] = false
 wrong r (f ∷ fs) (w ∷ ws) = misses r f w || wrong r fs ws
+
+-- a word breaks no rule by its form
+unfoldable pub is_fine : Form → List ℕ → Bool
+is_fine f w = is_listed f w && (has_pairs f w && has_form f w)
+
+-- no word breaks a rule by its form
+unfoldable pub are_fine : List Form → List (List ℕ) → Bool
+are_fine [] ws = true
+are_fine (f ∷ fs) [] = true
+are_fine (f ∷ fs) (w ∷ ws) = is_fine f w && are_fine fs ws

@@ -1,7 +1,7 @@
 //! The rules that words break by their forms.
 
 ghost use Rattle.std.specs.Prelude.{◌≡◌};
-ghost use Rattle.pth_spelling.specs.FormRules.{is_listed, has_form, has_pairs, misses, wrong};
+ghost use Rattle.pth_spelling.specs.FormRules.{are_fine, has_form, has_pairs, is_fine, is_listed, misses, wrong};
 ghost use Rattle.pth_spelling.specs.declared.form.Form.TheVariants as form;
 ghost use Rattle.pth_spelling.specs.Texts.{texts};
 
@@ -96,4 +96,25 @@ pub fn wrong(rule: Rule, forms: &[Form], words: &[&[u8]]) -> bool
         .iter()
         .zip(words.iter())
         .any(|(form, word)| misses(rule, *form, word))
+}
+
+/// Whether a word breaks no rule by its form.
+#[tactic(auto, unfolding(crate::specs::FormRules::is_fine))]
+fn is_fine(form: Form, word: &[u8]) -> bool
+    ensures { result ≡ is_fine form word.now }
+{
+    match form {
+        Form::Operand => operand(word).is_some(),
+        _ => is_listed(form, word) && has_pairs(form, word) && has_form(form, word),
+    }
+}
+
+/// Whether no word breaks a rule by its form. This is asked once in place of `wrong` for each rule.
+pub fn are_fine(forms: &[Form], words: &[&[u8]]) -> bool
+    ensures { result ≡ are_fine forms.now (texts words.now) }
+{
+    forms
+        .iter()
+        .zip(words.iter())
+        .all(|(form, word)| is_fine(*form, *word))
 }

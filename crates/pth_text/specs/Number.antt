@@ -1,5 +1,5 @@
 -- How numbers are spelled: `0`, or an optional `-`, a digit from 1 to 9 and further digits.
-use Rattle.std.specs.Prelude.{ℕ, ℤ, pos, neg_ℤ, ◌^◌, ◌==◌, int_le, int_lt, Bool, false, not, ◌&&◌, ◌||◌, List, [], ◌∷◌, drop, codes, Option, Some, None, if◌then◌else◌}
+use Rattle.std.specs.Prelude.{ℕ, ℤ, pos, neg_ℤ, ◌^◌, ◌==◌, int_le, int_lt, nat_le, nat_lt, length, slice_index, Bool, false, not, ◌&&◌, ◌||◌, List, [], ◌∷◌, drop, codes, Option, Some, None, if◌then◌else◌}
 use Rattle.std.specs.Str.{all_ascii_digits, bytes_eq}
 use Rattle.std.specs.Str.Parse.{starts_with_minus, signed_digits_value}
 use Rattle.pth_text.specs.Bytes.{code}
@@ -24,3 +24,11 @@ is_i64 n = int_le (neg_ℤ (pos (2 ^ 63))) n && int_lt n (pos (2 ^ 63))
 -- the number that a word spells, where it is one of 64 bits
 unfoldable pub numeral_value : List ℕ → Option ℤ
 numeral_value word = let n = signed_digits_value 10 word in if is_numeral word && is_i64 n then Some n else None
+
+-- a `0` before other bytes
+abbrev pub has_leading_zero : List ℕ → Bool
+has_leading_zero word = nat_lt 1 (length word) && slice_index word 0 == code "0"
+
+-- a word that may be a number without a sign, and of so few digits that they fit 64 bits
+abbrev pub is_plain : List ℕ → Bool
+is_plain word = nat_le 1 (length word) && (nat_le (length word) 18 && (not (starts_with_minus word) && not (has_leading_zero word)))
