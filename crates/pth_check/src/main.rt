@@ -3,7 +3,7 @@
 #![tactic(auto)]
 
 use pth_checker::{HELP, PROGRAM, check};
-use pth_filter::faults::fault_of_words;
+use pth_filter::faults::fault_of_arguments;
 use pth_filter::finish::report_fault;
 use pth_filter::help::{asks_help, write_help};
 use pth_streams::arguments::arguments;
@@ -17,7 +17,7 @@ fn main(rt: HostRuntime) -> ExitCode {
     let words = match arguments(&rt) {
         Ok(words) => words,
         Err(e) => {
-            let status = report_fault(rt.alloc(), PROGRAM, fault_of_words(e), &mut err);
+            let status = report_fault(rt.alloc(), PROGRAM, fault_of_arguments(e), &mut err);
             return ExitCode::from(status);
         }
     };

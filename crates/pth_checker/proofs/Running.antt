@@ -1,5 +1,5 @@
 -- What was done, from the words, the verdict, and how its line was written.
-use Rattle.std.proofs.Common.{◌≡◌, ℕ, List, [], Option, Some, None, Result, Ok, Err, ap, refl, inl, inr}
+use Rattle.std.proofs.Common.{◌≡◌, ℕ, List, [], Option, Some, None, Ok, Err, ap, refl, inl, inr}
 use Rattle.std.proofs.KnownBytes.{Appends-nil}
 use Rattle.pth_checker.specs.Check.{check, program, verdict_output}
 use Rattle.pth_checker.specs.Judged.{HoldsVerdict}

@@ -10,7 +10,7 @@ ghost use Rattle.pth_streams.specs.Pieces.{WritesPiece, received};
 ghost use Rattle.pth_streams.specs.Scene.{scene};
 ghost use Rattle.pth_transcript.specs.Reading.{CountsFault};
 ghost use Rattle.pth_filter.specs.Answers.{Ran, object_for};
-ghost use Rattle.pth_filter.specs.Objects.{OtherStays, OthersStay, content_under, is_file, of_read};
+ghost use Rattle.pth_filter.specs.Objects.{OtherStays, OthersUntouched, content_under, is_file, of_read};
 
 use crate::session::Session;
 use crate::verdict::Verdict;
@@ -92,7 +92,7 @@ pub(crate) fn run<S: Source, F: Files, O: Sink>(
         (F.left files.new) (F.held files.new) (F.faults files.new))
         (received (O.written out.new) (O.faults out.new)))
         result }
-    ensures others { OthersStay (object_for check (asked_by (map string_bytes words.now.items)))
+    ensures others { OthersUntouched (object_for check (asked_by (map string_bytes words.now.items)))
         input.old input.new files.old files.new }
 {
     let name = read_words(alloc, words)?;

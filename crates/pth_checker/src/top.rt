@@ -4,7 +4,7 @@ ghost use Rattle.std.specs.Prelude.{map, string_bytes};
 ghost use Rattle.pth_checker.specs.Check.{check};
 ghost use Rattle.pth_checker.specs.Words.{asked_by};
 ghost use Rattle.pth_filter.specs.Answers.{Answers, object_for};
-ghost use Rattle.pth_filter.specs.Objects.{OthersStay};
+ghost use Rattle.pth_filter.specs.Objects.{OthersUntouched};
 ghost use Rattle.pth_streams.specs.Inputs.{inputs};
 ghost use Rattle.pth_streams.specs.Pieces.{received};
 ghost use Rattle.pth_streams.specs.Scene.{scene};
@@ -33,7 +33,7 @@ pub fn check<S: Source, F: Files, O: Sink, E: Sink>(
     out: &mut O,
     err: &mut E,
 ) -> u8
-    ensures others { OthersStay (object_for check (asked_by (map string_bytes words.now.items)))
+    ensures others { OthersUntouched (object_for check (asked_by (map string_bytes words.now.items)))
         input.old input.new files.old files.new }
     ensures answers { Answers check (record {
       words = map string_bytes words.now.items;

@@ -47,7 +47,7 @@ pub record GoesOnBehindEnding (bytes : List ℕ) (line : ℕ) : Type 0 where
   pub whole : bytes ≡ (told_lines told ++ ending_line ending) ++ rest
   pub number : line ≡ next_line (length told + 1)
 
--- the line with this number is the first that is not taken
+-- the lines before the one with this number are those of a transcript; of this one nothing is said
 abbrev pub GoesOnAt : (bytes : List ℕ) → (line : ℕ) → Type 0
 GoesOnAt bytes line = GoesOnInMarks bytes line ⊎ GoesOnBehindEnding bytes line
 
@@ -59,7 +59,7 @@ pub record IsMade {T : Type 0} (Is : List Mark → T → Type 0) (content : Opti
   pub transcript : IsTranscript bytes told
   pub made : Is (marks_of told) x
 
--- a content goes on after lines of a transcript, with a line that was refused
+-- a content goes on after the lines of a transcript, and the next line has this number
 pub record BreaksOff (content : Option (List ℕ)) (line : ℕ) : Type 0 where
   pub bytes : List ℕ
   pub held : AreHeld content bytes
@@ -88,7 +88,7 @@ program = codes "pth_picture"
 abbrev pub picture_output : List ℕ → Output
 picture_output text = record { text = text; fault = None; status = 0 }
 
--- the output of a text: the picture of the run that it tells, or the refusal of the first line that is not taken
+-- the output of a text: the picture of the run that it tells, or the refusal of a line before which all lines are those of a transcript
 abbrev pub IsTextOutput : Asked → List ℕ → Output → Type 0
 IsTextOutput asked bytes out =
     ((told : List Told) × IsTranscript bytes told × (out ≡ picture_output (picture asked.from asked.turns (marks_of told))))

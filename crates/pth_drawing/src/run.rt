@@ -6,7 +6,7 @@ ghost use Rattle.pth_streams.specs.Pieces.{received};
 ghost use Rattle.pth_streams.specs.Scene.{scene};
 ghost use Rattle.pth_transcript.specs.Reading.{ComesTo, CountsFault};
 ghost use Rattle.pth_filter.specs.Answers.{Ran, object_for};
-ghost use Rattle.pth_filter.specs.Objects.{OtherStays, OthersStay, content_under, faults_under, is_file, of_read};
+ghost use Rattle.pth_filter.specs.Objects.{OtherStays, OthersUntouched, content_under, faults_under, is_file, of_read};
 ghost use Rattle.pth_transcript.specs.Taking.{IsOver, IsStarted, ahead};
 ghost use Rattle.pth_drawing.specs.Bounds.{most_columns};
 ghost use Rattle.pth_drawing.specs.Charts.{chart_seen};
@@ -214,7 +214,7 @@ pub(crate) fn run<S: Source, F: Files, O: Sink>(
         (F.left files.new) (F.held files.new) (F.faults files.new))
         (received (O.written out.new) (O.faults out.new)))
         result }
-    ensures others { OthersStay (object_for draw (asked_by (map string_bytes words.now.items)))
+    ensures others { OthersUntouched (object_for draw (asked_by (map string_bytes words.now.items)))
         input.old input.new files.old files.new }
 {
     let choice = read_words(alloc, words)?;

@@ -7,7 +7,7 @@ ghost use Rattle.pth_streams.specs.Scene.{scene};
 ghost use Rattle.pth_drawing.specs.Draw.{draw};
 ghost use Rattle.pth_drawing.specs.Words.{asked_by};
 ghost use Rattle.pth_filter.specs.Answers.{Answers, object_for};
-ghost use Rattle.pth_filter.specs.Objects.{OthersStay};
+ghost use Rattle.pth_filter.specs.Objects.{OthersUntouched};
 
 use crate::run::run;
 use pth_filter::finish::finish;
@@ -33,7 +33,7 @@ pub fn draw<S: Source, F: Files, O: Sink, E: Sink>(
     out: &mut O,
     err: &mut E,
 ) -> u8
-    ensures others { OthersStay (object_for draw (asked_by (map string_bytes words.now.items)))
+    ensures others { OthersUntouched (object_for draw (asked_by (map string_bytes words.now.items)))
         input.old input.new files.old files.new }
     ensures answers { Answers draw (record {
       words = map string_bytes words.now.items;

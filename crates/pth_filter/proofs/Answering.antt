@@ -1,10 +1,8 @@
 -- The clauses of a call, from what was done and how the call ends.
-use Rattle.std.proofs.Common.{◌≡◌, ◌≢◌, ◌≤◌, ◌<◌, ◌∙◌, ◌⊎◌, ℕ, List, [], Option, Some, None, Result, Ok, Err, sym, subst, arith, inl, inr}
-use Rattle.std.specs.Io.KnownBytes.{Appends}
-use Rattle.pth_streams.specs.Faults.{Rose}
-use Rattle.pth_streams.specs.Pieces.{AppendsPrefix, IsUnwritten, WritesLine}
-use Rattle.pth_streams.proofs.Pieces.{all_of, none_after, part_is_prefix}
-use Rattle.pth_filter.specs.Answers.{Answers, BeginsFault, BreaksOff, Completes, CountsNoReadFault, CountsReadFault, CountsWriteFault, CutsShort, Ends, IsOutputStatus, IsTextStatus, Ran, TellsFault, TellsFaultOf, TopCall, WritesNothing, WritesWhole, asked_in}
+use Rattle.std.proofs.Common.{◌≡◌, ◌≢◌, ◌≤◌, ◌<◌, ◌∙◌, ◌⊎◌, ℕ, Result, Ok, Err, sym, subst, arith, inl, inr}
+use Rattle.pth_streams.proofs.Pieces.{all_of, part_is_prefix}
+use Rattle.pth_streams.specs.Pieces.{AppendsPrefix}
+use Rattle.pth_filter.specs.Answers.{Answers, BeginsFault, ComesToOrSeven, CountsNoReadFault, CountsNoWriteFault, CountsReadFault, CountsWriteFault, Ends, IsOutputStatus, IsTextStatus, Ran, TopCall, WritesAtMostBeginning, WritesFault, WritesFaultOf, WritesNothing, WritesPart, WritesWhole, asked_in}
 use Rattle.pth_filter.specs.Faults.{Reports}
 use Rattle.pth_print.specs.FaultLines.{fault_line, fault_status}
 use Rattle.pth_filter.specs.Filter.{Filter}
@@ -49,28 +47,29 @@ module _ {A : Type 0} (filter : Filter A) (call : TopCall) where
       clash (inr h) = not7 (sym e ∙ h)
 
   -- with another status than 7 its line was written
-  tells : (f : Fault) → Told f → call.status ≢ 7 → TellsFault filter call f
+  tells : (f : Fault) → Told f → call.status ≢ 7 → WritesFault filter call f
   tells f (inl h) not7 = h.1
   tells f (inr h) not7 = absurd (not7 h.0)
 
-  -- with 7 a beginning of a line was written, or the whole of it
-  begins : (r : Result ℕ Fault) → Did r → Ended r → call.status ≡ 7 → BeginsFault filter call
+  -- a beginning of its line was written, or the whole of it
+  begun : (f : Fault) → Told f → AppendsPrefix call.err_old.written call.err_new.written (fault_line filter.name f)
+  begun f (inl h) = elim h.1 [
+    | inl all ↦ all_of call.err_old.written call.err_new.written (fault_line filter.name f) all.0
+    | inr part ↦ part_is_prefix call.err_old.written call.err_new.written (fault_line filter.name f) part.0
+  ]
+  begun f (inr h) = h.1.0
+
+  -- with 7 what was done came to a fault
+  begins : (r : Result ℕ Fault) → Did r → Ended r → call.status ≡ 7 → (f : Fault) × BeginsFault filter call f
   begins (Ok its) ran ends e = absurd (not_text its call.status 7 ran.1 ends.0 (omega arith) (λ h. omega arith) e)
-  begins (Err f) ran (inl h) e = (
-    f,
-    elim h.1 [
-      | inl all ↦ all_of call.err_old.written call.err_new.written (fault_line filter.name f) all.0
-      | inr part ↦ part_is_prefix call.err_old.written call.err_new.written (fault_line filter.name f) part.0
-    ],
-  )
-  begins (Err f) ran (inr h) e = (f, h.1.0)
+  begins (Err f) ran ends e = (f, (ran, begun f ends))
 
   -- ---- by the status
 
   whole_text : (its : ℕ) → Did (Ok its) → Ended (Ok its) → WritesWhole filter call
   whole_text its ran ends =
       let t = ran.2 in
-      (t.0, t.1, ends.0 ∙ sym t.3, t.4, t.5, subst (TellsFaultOf filter call) (sym t.2) ends.1)
+      (t.0, t.1, ends.0 ∙ sym t.3, t.4, t.5, subst (WritesFaultOf filter call) (sym t.2) ends.1)
 
   whole : (r : Result ℕ Fault) → Did r → Ended r → IsOutputStatus call.status → WritesWhole filter call
   whole (Ok its) ran ends h = whole_text its ran ends
@@ -83,7 +82,7 @@ module _ {A : Type 0} (filter : Filter A) (call : TopCall) where
   whole (Err fault.OutOfMemory) ran ends h = absurd (elim ends [ inl k ↦ not_output call.status (inr (inr k.0)) h | inr k ↦ not_output call.status (inr (inr k.0)) h ])
 
   read : (r : Result ℕ Fault) → Did r → Ended r → call.status ≡ 4
-      → CountsReadFault filter call × WritesNothing filter call × TellsFault filter call fault.ReadFault
+      → CountsReadFault filter call × WritesNothing filter call × WritesFault filter call fault.ReadFault
   read (Ok its) ran ends e = absurd (not_text its call.status 4 ran.1 ends.0 (omega arith) (λ h. omega arith) e)
   read (Err fault.Words) ran ends e = other fault.Words 4 ends (λ h. omega arith) (λ h. omega arith) e
   read (Err (fault.Input line why)) ran ends e = other (fault.Input line why) 4 ends (λ h. omega arith) (λ h. omega arith) e
@@ -91,7 +90,7 @@ module _ {A : Type 0} (filter : Filter A) (call : TopCall) where
   read (Err fault.WriteFault) ran ends e = other fault.WriteFault 4 ends (λ h. omega arith) (λ h. omega arith) e
   read (Err fault.OutOfMemory) ran ends e = other fault.OutOfMemory 4 ends (λ h. omega arith) (λ h. omega arith) e
 
-  write : (r : Result ℕ Fault) → Did r → Ended r → call.status ≡ 5 → CutsShort filter call × TellsFault filter call fault.WriteFault
+  write : (r : Result ℕ Fault) → Did r → Ended r → call.status ≡ 5 → WritesPart filter (asked_in filter call) call.old call.new × WritesFault filter call fault.WriteFault
   write (Ok its) ran ends e = absurd (not_text its call.status 5 ran.1 ends.0 (omega arith) (λ h. omega arith) e)
   write (Err fault.Words) ran ends e = other fault.Words 5 ends (λ h. omega arith) (λ h. omega arith) e
   write (Err (fault.Input line why)) ran ends e = other (fault.Input line why) 5 ends (λ h. omega arith) (λ h. omega arith) e
@@ -99,7 +98,7 @@ module _ {A : Type 0} (filter : Filter A) (call : TopCall) where
   write (Err fault.WriteFault) ran ends e = (ran.1, tells fault.WriteFault ends (λ h. omega arith))
   write (Err fault.OutOfMemory) ran ends e = other fault.OutOfMemory 5 ends (λ h. omega arith) (λ h. omega arith) e
 
-  breaks_off : (r : Result ℕ Fault) → Did r → BreaksOff filter call
+  breaks_off : (r : Result ℕ Fault) → Did r → WritesAtMostBeginning filter call
   breaks_off (Ok its) ran = let t = ran.2 in inr (t.0, t.1, all_of call.old.out.written call.new.out.written t.0.text t.4)
   breaks_off (Err fault.Words) ran = inl ran.2.0
   breaks_off (Err (fault.Input line why)) ran = inl ran.2.0
@@ -110,7 +109,7 @@ module _ {A : Type 0} (filter : Filter A) (call : TopCall) where
   -- ---- counts
 
   read_counts : (r : Result ℕ Fault) → Did r → Ended r
-      → CountsNoReadFault filter call ⊎ (CountsReadFault filter call × ((call.status ≡ 4) ⊎ (call.status ≡ 7)))
+      → CountsNoReadFault filter call ⊎ (CountsReadFault filter call × ComesToOrSeven call 4)
   read_counts (Ok its) ran ends = inl ran.0
   read_counts (Err fault.Words) ran ends = inl ran.0
   read_counts (Err (fault.Input line why)) ran ends = inl ran.0
@@ -119,7 +118,7 @@ module _ {A : Type 0} (filter : Filter A) (call : TopCall) where
   read_counts (Err fault.OutOfMemory) ran ends = inl ran.0
 
   written_counts : (r : Result ℕ Fault) → Did r → Ended r
-      → (call.new.out.faults ≡ call.old.out.faults) ⊎ (CountsWriteFault filter call × ((call.status ≡ 5) ⊎ (call.status ≡ 7)))
+      → CountsNoWriteFault filter call ⊎ (CountsWriteFault filter call × ComesToOrSeven call 5)
   written_counts (Ok its) ran ends = inl ran.2.5
   written_counts (Err fault.Words) ran ends = inl ran.2.1
   written_counts (Err (fault.Input line why)) ran ends = inl ran.2.1

@@ -6,7 +6,6 @@ use Rattle.pth_streams.proofs.Pieces.{all_of, part_is_prefix}
 use Rattle.pth_filter.specs.Faults.{Reports}
 use Rattle.pth_print.specs.FaultLines.{fault_line}
 use Rattle.pth_filter.specs.Help.{Helps}
-use Rattle.pth_print.specs.declared.fault_line.Fault.{Fault}
 use Rattle.pth_print.specs.declared.fault_line.Fault.TheVariants as fault
 
 module _ (program help : List ℕ) (old new w x : Received) where

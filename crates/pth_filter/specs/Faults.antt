@@ -12,9 +12,9 @@ use Rattle.pth_streams.specs.declared.source.ReadFault.{ReadFault}
 use Rattle.pth_streams.specs.declared.source.ReadFault.TheVariants as read
 
 -- of words that were not read
-abbrev pub fault_of_words : ArgumentsErr → Fault
-fault_of_words arguments.NotUtf8 = fault.Words
-fault_of_words arguments.OutOfMemory = fault.OutOfMemory
+abbrev pub fault_of_arguments : ArgumentsErr → Fault
+fault_of_arguments arguments.NotUtf8 = fault.Words
+fault_of_arguments arguments.OutOfMemory = fault.OutOfMemory
 
 -- of a read
 abbrev pub fault_of_read : ReadFault → Fault

@@ -24,7 +24,7 @@ content_under (Some name) ins = if bytes_eq name (codes "-") then ins.left else 
 abbrev pub faults_under : Option (List ℕ) → Inputs → ℕ
 faults_under name ins = of_read (is_file name) ins.faults ins.file_faults
 
--- of the input and the files, the one that is not read is as it was: it was not even asked
+-- of the input and the files, the one that is not read is as it was
 abbrev pub OtherStays : {S F : Type 0} → (of_file : Bool) → S → S → F → F → Type 0
 OtherStays true input later files after = later ≡ input
 OtherStays false input later files after = after ≡ files
@@ -32,7 +32,7 @@ OtherStays false input later files after = after ≡ files
 -- ---- the object
 
 pub data Object : Type 0 where
-  -- nothing is read, as if the words are refused
+  -- nothing is read: the words are refused
   nothing : Object
   -- a text that the words ask for, which is made and not read
   made : List ℕ → Object
@@ -57,8 +57,8 @@ Stands nothing old new = Unit {0}
 Stands (made text) old new = Unit {0}
 Stands (named name) old new = faults_under name new ≡ faults_under name old
 
--- of the input and the files, what is not read is as it was: it was not even asked
-abbrev pub OthersStay : {S F : Type 0} → Object → S → S → F → F → Type 0
-OthersStay nothing input later files after = (later ≡ input) × (after ≡ files)
-OthersStay (made text) input later files after = (later ≡ input) × (after ≡ files)
-OthersStay (named name) input later files after = OtherStays (is_file name) input later files after
+-- of the input and the files, all that is not the object is as it was
+abbrev pub OthersUntouched : {S F : Type 0} → Object → S → S → F → F → Type 0
+OthersUntouched nothing input later files after = (later ≡ input) × (after ≡ files)
+OthersUntouched (made text) input later files after = (later ≡ input) × (after ≡ files)
+OthersUntouched (named name) input later files after = OtherStays (is_file name) input later files after

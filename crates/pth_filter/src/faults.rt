@@ -1,7 +1,7 @@
 //! The fault that an error of a part is.
 
 ghost use Rattle.std.specs.Prelude.{◌≡◌};
-ghost use Rattle.pth_filter.specs.Faults.{fault_of_read, fault_of_words, fault_of_write};
+ghost use Rattle.pth_filter.specs.Faults.{fault_of_read, fault_of_arguments, fault_of_write};
 
 use pth_print::fault_line::Fault;
 use pth_streams::arguments::ArgumentsErr;
@@ -9,8 +9,8 @@ use pth_streams::sink::SinkErr;
 use pth_streams::source::ReadFault;
 
 /// The fault of a program whose words were not read.
-pub fn fault_of_words(e: ArgumentsErr) -> Fault
-    ensures { result ≡ fault_of_words e }
+pub fn fault_of_arguments(e: ArgumentsErr) -> Fault
+    ensures { result ≡ fault_of_arguments e }
 {
     match e {
         ArgumentsErr::NotUtf8 => Fault::Words,

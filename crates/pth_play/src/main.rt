@@ -1,7 +1,7 @@
 //! The program: the words and the real objects are handed to the player, and its status is the exit status.
 #![tactic(auto)]
 
-use pth_filter::faults::fault_of_words;
+use pth_filter::faults::fault_of_arguments;
 use pth_filter::finish::report_fault;
 use pth_player::{PROGRAM, play};
 use pth_streams::arguments::arguments;
@@ -15,7 +15,7 @@ fn main(rt: HostRuntime) -> ExitCode {
     let words = match arguments(&rt) {
         Ok(words) => words,
         Err(e) => {
-            let status = report_fault(rt.alloc(), PROGRAM, fault_of_words(e), &mut err);
+            let status = report_fault(rt.alloc(), PROGRAM, fault_of_arguments(e), &mut err);
             return ExitCode::from(status);
         }
     };

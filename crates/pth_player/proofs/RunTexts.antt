@@ -11,7 +11,7 @@ use Rattle.pth_command.specs.CommandLine.{Asked}
 use Rattle.pth_streams.specs.Pieces.{AppendsPart, AppendsPrefix}
 use Rattle.pth_laws.proofs.RunLaws.{run_meets_laws}
 use Rattle.pth_player.specs.Objects.{cut}
-use Rattle.pth_filter.specs.Answers.{Answers, CutsShort, HasOutput, IsTextStatus, TopCall, WritesWhole, asked_in}
+use Rattle.pth_filter.specs.Answers.{Answers, HasOutput, IsTextStatus, TopCall, WritesPart, WritesWhole, asked_in}
 use Rattle.pth_filter.specs.Output.{Output, refusal}
 use Rattle.pth_player.specs.Output.{IsScriptOutput, IsTheOutput, play, program}
 use Rattle.pth_player.specs.Play.{IsTextOfRun, ShowsRun, WritesRun}
@@ -72,7 +72,7 @@ module _ (call : TopCall) (answers : Answers play call) where
       | inr refused ↦ absurd (not_three call.status h (x.2 ∙ ap (λ (o : Output). o.status) refused.3))
     ]
 
-    part_run : CutsShort play call → WritesRun call asked AppendsPart
+    part_run : WritesPart play Words call.old call.new → WritesRun call asked AppendsPart
     part_run x = elim (text_of_call x.1.0 x.0 x.1.2) [
       | inl text ↦ (x.1.0, x.1.1, x.0.text, text, x.2)
       | inr refused ↦ absurd (no_part call.old.out.written call.new.out.written x.0.text (empty (cut x.1.0) x.0 refused) x.2)

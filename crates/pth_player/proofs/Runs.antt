@@ -13,14 +13,14 @@ use Rattle.pth_command.specs.declared.choice.Choice.{Choice}
 use Rattle.pth_command.specs.declared.command_line.WordsErr.{WordsErr}
 use Rattle.pth_command.specs.declared.command_line.WordsErr.TheVariants as words
 use Rattle.pth_filter.specs.Faults.{fault_of_write}
-use Rattle.pth_filter.specs.Objects.{Object, OtherStays, OthersStay, Stands, is_file, made, named, nothing}
+use Rattle.pth_filter.specs.Objects.{Object, OtherStays, OthersUntouched, Stands, is_file, made, named, nothing}
 use Rattle.pth_player.specs.FaultsOfErrors.{fault_of_words}
 use Rattle.pth_player.specs.Drive.{Drives, IsRestTo}
 use Rattle.pth_streams.specs.Inputs.{Inputs}
 use Rattle.pth_streams.specs.Scene.{Scene, scene}
 use Rattle.pth_player.specs.Objects.{ObjectRead, asked_object, cut}
 use Rattle.pth_player.specs.Output.{given_script, outcome_status, told_output, upgrade_output, IsRunOutput}
-use Rattle.pth_player.specs.Play.{HoldsScript, IsRead, Ran, RanFor, ReadsText, WritesScript, done_status}
+use Rattle.pth_player.specs.Play.{HoldsScript, IsRead, Played, PlayedFor, ReadsText, WritesScript, done_status}
 use Rattle.pth_streams.specs.Pieces.{Received}
 use Rattle.pth_streams.specs.Pieces.{WritesPiece}
 use Rattle.pth_player.specs.declared.done.Done.{Done}
@@ -38,7 +38,7 @@ stays_refl : {S F : Type 0} (of_file : Bool) (input : S) (files : F) → OtherSt
 stays_refl true input files = refl
 stays_refl false input files = refl
 
-pub others_refl : {S F : Type 0} (object : Object) (input : S) (files : F) → OthersStay object input input files files
+pub others_refl : {S F : Type 0} (object : Object) (input : S) (files : F) → OthersUntouched object input input files files
 others_refl nothing input files = (refl, refl)
 others_refl (made text) input files = (refl, refl)
 others_refl (named name) input files = stays_refl (is_file name) input files
@@ -72,23 +72,23 @@ module _ (asked : Option Asked) (ins : Inputs) (w : Received) where
   abbrev before : Scene
   before = scene ins w
 
-  unasked_by : (e : WordsErr) (e2 : Fault) → e2 ≡ fault_of_words e → Chooses asked (Err e) → Ran asked before before (Err e2)
-  unasked_by words.Refused e2 is h = subst (λ o. Ran o before before (Err e2)) (sym h) (subst (λ f. Ran None before before (Err f)) (sym is) (Appends-nil w.written, refl))
-  unasked_by words.OutOfMemory e2 is h = subst (λ f. Ran asked before before (Err f)) (sym is) (out_of_memory asked)
+  unasked_by : (e : WordsErr) (e2 : Fault) → e2 ≡ fault_of_words e → Chooses asked (Err e) → Played asked before before (Err e2)
+  unasked_by words.Refused e2 is h = subst (λ o. Played o before before (Err e2)) (sym h) (subst (λ f. Played None before before (Err f)) (sym is) (Appends-nil w.written, refl))
+  unasked_by words.OutOfMemory e2 is h = subst (λ f. Played asked before before (Err f)) (sym is) (out_of_memory asked)
     where
-      out_of_memory : (o : Option Asked) → Ran o before before (Err fault.OutOfMemory)
+      out_of_memory : (o : Option Asked) → Played o before before (Err fault.OutOfMemory)
       out_of_memory None = (Appends-nil w.written, refl)
       out_of_memory (Some x) = (stood_refl (asked_object (Some x)) ins, inl (Appends-nil w.written, refl))
 
   unasked_for : (q : Result Choice WordsErr) (s : Result Choice Fault) (e : Fault) → Chooses asked q → MatchResult q (λ c. s ≡ Ok c) (λ x. IsErrAnd s (λ y. y ≡ fault_of_words x)) → s ≡ Err e
-      → Ran asked before before (Err e)
+      → Played asked before before (Err e)
   unasked_for (Ok c) s e answers m is = absurd (ok_not_err s c e m is)
   unasked_for (Err x) s e answers m is = unasked_by x e (subst (λ t. IsErrAnd t (λ y. y ≡ fault_of_words x)) is m) answers
 
   -- the words were refused, or memory ran out for them
   pub unasked : (q : Result Choice WordsErr) (s : Result Choice Fault) (e : Fault) (r : Result Done Fault) → Chooses asked q
-      → MatchResult q (λ c. s ≡ Ok c) (λ x. IsErrAnd s (λ y. y ≡ fault_of_words x)) → s ≡ Err e → IsErr r → IsErrAnd r (λ y. y ≡ e) → Ran asked before before r
-  unasked q s e r answers m is h k = subst (λ y. Ran asked before before y) (sym (err_is r e h k)) (unasked_for q s e answers m is)
+      → MatchResult q (λ c. s ≡ Ok c) (λ x. IsErrAnd s (λ y. y ≡ fault_of_words x)) → s ≡ Err e → IsErr r → IsErrAnd r (λ y. y ≡ e) → Played asked before before r
+  unasked q s e r answers m is h k = subst (λ y. Played asked before before y) (sym (err_is r e h k)) (unasked_for q s e answers m is)
 
 module _ (asked : Asked) (ins later : Inputs) (w : Received) where
   abbrev scene_before : Scene
@@ -98,7 +98,7 @@ module _ (asked : Asked) (ins later : Inputs) (w : Received) where
   unwritten = scene later w
 
   module _ {T : Type 0} (Is : T → List ℕ → Type 0) where
-    unread_by : (e : Fault) → ReadsText Is (asked_object (Some asked)) ins later (Err e) → RanFor asked scene_before unwritten (Err e)
+    unread_by : (e : Fault) → ReadsText Is (asked_object (Some asked)) ins later (Err e) → PlayedFor asked scene_before unwritten (Err e)
     unread_by (fault.Input line flaw) h = (h.0, h.1, (Appends-nil w.written, refl))
     unread_by fault.ReadFault h = (h, (Appends-nil w.written, refl))
     unread_by fault.OutOfMemory h = (h, inl (Appends-nil w.written, refl))
@@ -106,11 +106,11 @@ module _ (asked : Asked) (ins later : Inputs) (w : Received) where
     unread_by fault.WriteFault h = absurd h
 
     -- the object was not read, or it holds no script
-    pub unread : (e : Fault) (r : Result Done Fault) → ReadsText Is (asked_object (Some asked)) ins later (Err e) → IsErr r → IsErrAnd r (λ y. y ≡ e) → RanFor asked scene_before unwritten r
-    unread e r h some k = subst (λ y. RanFor asked scene_before unwritten y) (sym (err_is r e some k)) (unread_by e h)
+    pub unread : (e : Fault) (r : Result Done Fault) → ReadsText Is (asked_object (Some asked)) ins later (Err e) → IsErr r → IsErrAnd r (λ y. y ≡ e) → PlayedFor asked scene_before unwritten r
+    unread e r h some k = subst (λ y. PlayedFor asked scene_before unwritten y) (sym (err_is r e some k)) (unread_by e h)
 
   -- memory ran out for the machine
-  pub unmade : Stands (asked_object (Some asked)) ins later → RanFor asked scene_before unwritten (Err fault.OutOfMemory)
+  pub unmade : Stands (asked_object (Some asked)) ins later → PlayedFor asked scene_before unwritten (Err fault.OutOfMemory)
   unmade stood = (stood, inl (Appends-nil w.written, refl))
 
   module _ (z : Received) where
@@ -118,7 +118,7 @@ module _ (asked : Asked) (ins later : Inputs) (w : Received) where
     after = scene later z
 
     -- what was written comes to what was done
-    wrote : (read : ObjectRead (asked_object (Some asked)) ins later) (r : Result Done SinkErr) → WritesScript asked scene_before after r → RanFor asked scene_before after (done_of r)
+    wrote : (read : ObjectRead (asked_object (Some asked)) ins later) (r : Result Done SinkErr) → WritesScript asked scene_before after r → PlayedFor asked scene_before after (done_of r)
     wrote read (Ok d) h = (read, h)
     wrote read (Err sink.Failed) h = (read, h)
     wrote read (Err sink.OutOfMemory) h = (read_stood (asked_object (Some asked)) ins later read, inr h)
@@ -156,7 +156,7 @@ module _ (asked : Asked) (ins later : Inputs) (w : Received) where
         (subst (AppendsPrefix w.written z.written) (text_is d.0 d.1 d.2) d.3, d.4),
       )
 
-      pub drove : (r : Result Outcome SinkErr) → Drives functions_of (given_script script) asked 0 w z r → RanFor asked scene_before after (done_of (ran_of r))
+      pub drove : (r : Result Outcome SinkErr) → Drives functions_of (given_script script) asked 0 w z r → PlayedFor asked scene_before after (done_of (ran_of r))
       drove r d = wrote h.0 (ran_of r) (drove_by r d)
 
     -- the text in version 2 was written
@@ -173,13 +173,13 @@ module _ (asked : Asked) (ins later : Inputs) (w : Received) where
           piece_of (Err sink.Failed) p = p
           piece_of (Err sink.OutOfMemory) p = p
 
-      pub wrote_upgrade : (r : Result (Unit {0}) SinkErr) → WritesPiece w z text r → RanFor asked scene_before after (done_of (upgraded_of r))
+      pub wrote_upgrade : (r : Result (Unit {0}) SinkErr) → WritesPiece w z text r → PlayedFor asked scene_before after (done_of (upgraded_of r))
       wrote_upgrade r piece = wrote h.0 (upgraded_of r) (wrote_by r piece)
 
 -- what was done for what the words ask
-pub ran_for : (asked : Option Asked) (x : Asked) (old new : Scene) (r : Result Done Fault) → asked ≡ Some x → RanFor x old new r → Ran asked old new r
-ran_for asked x old new r is h = subst (λ o. Ran o old new r) (sym is) h
+pub ran_for : (asked : Option Asked) (x : Asked) (old new : Scene) (r : Result Done Fault) → asked ≡ Some x → PlayedFor x old new r → Played asked old new r
+ran_for asked x old new r is h = subst (λ o. Played o old new r) (sym is) h
 
 -- the fault of a sink, as its caller tells it
-pub told_as : (asked : Asked) (old new : Scene) (e : SinkErr) (f : Fault) → f ≡ fault_of_write e → RanFor asked old new (Err (fault_of_write e)) → RanFor asked old new (Err f)
-told_as asked old new e f is h = subst (λ y. RanFor asked old new (Err y)) (sym is) h
+pub told_as : (asked : Asked) (old new : Scene) (e : SinkErr) (f : Fault) → f ≡ fault_of_write e → PlayedFor asked old new (Err (fault_of_write e)) → PlayedFor asked old new (Err f)
+told_as asked old new e f is h = subst (λ y. PlayedFor asked old new (Err y)) (sym is) h

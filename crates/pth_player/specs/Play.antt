@@ -13,9 +13,10 @@ use Rattle.pth_model.specs.State.{Given}
 use Rattle.pth_player.specs.declared.done.Done.{Done}
 use Rattle.pth_player.specs.declared.done.Done.TheVariants as done
 use Rattle.pth_player.specs.Objects.{ObjectRead, asked_object, content, cut}
-use Rattle.pth_player.specs.Output.{IsScriptOutput, IsRefused, IsTheScript, given_script, outcome_status, play}
+use Rattle.pth_player.specs.Output.{IsScriptOutput, IsRefused, IsTheScript, given_script, outcome_status, play, program}
 use Rattle.pth_player.specs.Transcript.{text_of}
 use Rattle.pth_base.specs.declared.outcome.Outcome.TheVariants.{OutOfMemory}
+use Rattle.pth_print.specs.FaultLines.{fault_line}
 use Rattle.pth_print.specs.declared.fault_line.Fault.{Fault}
 use Rattle.pth_print.specs.declared.fault_line.Fault.TheVariants as fault
 use Rattle.pth_print.specs.declared.fault_line.Flaw.{Flaw}
@@ -76,22 +77,22 @@ WritesScript asked old new r =
     (out : Output) × HoldsScript asked old out × IfOk r (λ d. out.status ≡ done_status d) × WritesPiece old.out new.out out.text r
 
 -- what was done for these words but for the line of a fault
-abbrev pub RanFor : Asked → Scene → Scene → Result Done Fault → Type 0
-RanFor asked old new (Ok d) = ObjectRead (asked_object (Some asked)) old.ins new.ins × WritesScript asked old new (Ok d)
-RanFor asked old new (Err fault.Words) = ⊥
-RanFor asked old new (Err (fault.Input line flaw)) =
+abbrev pub PlayedFor : Asked → Scene → Scene → Result Done Fault → Type 0
+PlayedFor asked old new (Ok d) = ObjectRead (asked_object (Some asked)) old.ins new.ins × WritesScript asked old new (Ok d)
+PlayedFor asked old new (Err fault.Words) = ⊥
+PlayedFor asked old new (Err (fault.Input line flaw)) =
     ObjectRead (asked_object (Some asked)) old.ins new.ins × HoldsRefused asked old line flaw × IsUnwritten old.out new.out
-RanFor asked old new (Err fault.ReadFault) = Rises (asked_object (Some asked)) old.ins new.ins × IsUnwritten old.out new.out
-RanFor asked old new (Err fault.WriteFault) = ObjectRead (asked_object (Some asked)) old.ins new.ins × WritesScript asked old new (Err sink.Failed)
-RanFor asked old new (Err fault.OutOfMemory) =
+PlayedFor asked old new (Err fault.ReadFault) = Rises (asked_object (Some asked)) old.ins new.ins × IsUnwritten old.out new.out
+PlayedFor asked old new (Err fault.WriteFault) = ObjectRead (asked_object (Some asked)) old.ins new.ins × WritesScript asked old new (Err sink.Failed)
+PlayedFor asked old new (Err fault.OutOfMemory) =
     Stands (asked_object (Some asked)) old.ins new.ins × (IsUnwritten old.out new.out ⊎ WritesScript asked old new (Err sink.OutOfMemory))
 
 -- if the words are refused nothing is written
-abbrev pub Ran : Option Asked → Scene → Scene → Result Done Fault → Type 0
-Ran (Some asked) old new r = RanFor asked old new r
-Ran None old new (Err fault.Words) = IsUnwritten old.out new.out
-Ran None old new (Err fault.OutOfMemory) = IsUnwritten old.out new.out
-Ran None old new r = ⊥
+abbrev pub Played : Option Asked → Scene → Scene → Result Done Fault → Type 0
+Played (Some asked) old new r = PlayedFor asked old new r
+Played None old new (Err fault.Words) = IsUnwritten old.out new.out
+Played None old new (Err fault.OutOfMemory) = IsUnwritten old.out new.out
+Played None old new r = ⊥
 
 -- the status of what was done, or its fault; no run comes to want of memory without one
 abbrev pub answer_of : Result Done Fault → Result ℕ Fault
@@ -158,3 +159,6 @@ pub record Plays (call : TopCall) : Type 0 where
   -- What was written is the text of a run or a beginning of it, if the words ask for no upgrade, and this run meets the laws of
   -- runs: its marks are in time, orderly, exclusive, initialised and in order.
   pub laws : IfSome (asked_in play call) (λ asked. asked.upgrade ≡ false → ShowsRun call asked)
+  -- with 7, what was done came to a fault, with the object read or not as the fault says, and a beginning of its line was written
+  pub memory : call.status ≡ 7 → (f : Fault) × Played (asked_in play call) call.old call.new (Err f)
+      × AppendsPrefix call.err_old.written call.err_new.written (fault_line program f)

@@ -9,10 +9,10 @@ ghost use Rattle.pth_command.specs.CommandLine.{IsWorkload, asked_by, asked_of};
 ghost use Rattle.pth_sched.specs.Running.{StandsAt};
 ghost use Rattle.pth_streams.specs.Inputs.{inputs};
 ghost use Rattle.pth_streams.specs.Scene.{scene};
-ghost use Rattle.pth_filter.specs.Objects.{OthersStay};
+ghost use Rattle.pth_filter.specs.Objects.{OthersUntouched};
 ghost use Rattle.pth_player.specs.Objects.{asked_object};
 ghost use Rattle.pth_player.specs.Output.{given_script};
-ghost use Rattle.pth_player.specs.Play.{Ran, RanFor};
+ghost use Rattle.pth_player.specs.Play.{Played, PlayedFor};
 ghost use Rattle.pth_streams.specs.Pieces.{received};
 
 use crate::done::Done;
@@ -57,7 +57,7 @@ fn run_script<S: Source, F: Files, O: Sink>(
     requires runs { choice.now.upgrade ≡ false }
     requires few { choice.now.steps ≤ most_steps }
     requires workload { IfSome choice.now.generate IsWorkload }
-    ensures ran { RanFor (asked_of choice.now)
+    ensures ran { PlayedFor (asked_of choice.now)
         (scene (inputs (S.left input.old) (S.faults input.old)
         (F.left files.old) (F.held files.old) (F.faults files.old))
         (received (O.written out.old) (O.faults out.old)))
@@ -65,7 +65,7 @@ fn run_script<S: Source, F: Files, O: Sink>(
         (F.left files.new) (F.held files.new) (F.faults files.new))
         (received (O.written out.new) (O.faults out.new)))
         result }
-    ensures others { OthersStay (asked_object (Some (asked_of choice.now))) input.old input.new files.old files.new }
+    ensures others { OthersUntouched (asked_object (Some (asked_of choice.now))) input.old input.new files.old files.new }
 {
     let read = read_script(alloc, choice, input, files)?;
     let Ok(mut machine) = machine_of(alloc, read) else {
@@ -87,7 +87,7 @@ fn upgrade_script<S: Source, F: Files, O: Sink>(
 ) -> Result<Done, Fault>
     requires upgrades { choice.now.upgrade ≡ true }
     requires workload { IfSome choice.now.generate IsWorkload }
-    ensures ran { RanFor (asked_of choice.now)
+    ensures ran { PlayedFor (asked_of choice.now)
         (scene (inputs (S.left input.old) (S.faults input.old)
         (F.left files.old) (F.held files.old) (F.faults files.old))
         (received (O.written out.old) (O.faults out.old)))
@@ -95,7 +95,7 @@ fn upgrade_script<S: Source, F: Files, O: Sink>(
         (F.left files.new) (F.held files.new) (F.faults files.new))
         (received (O.written out.new) (O.faults out.new)))
         result }
-    ensures others { OthersStay (asked_object (Some (asked_of choice.now))) input.old input.new files.old files.new }
+    ensures others { OthersUntouched (asked_object (Some (asked_of choice.now))) input.old input.new files.old files.new }
 {
     let text = read_upgrade(alloc, choice, input, files)?;
     match write_all(out, text.as_slice()) {
@@ -112,7 +112,7 @@ pub fn run<S: Source, F: Files, O: Sink>(
     files: &mut F,
     out: &mut O,
 ) -> Result<Done, Fault>
-    ensures ran { Ran (asked_by (map string_bytes words.now.items))
+    ensures ran { Played (asked_by (map string_bytes words.now.items))
         (scene (inputs (S.left input.old) (S.faults input.old)
         (F.left files.old) (F.held files.old) (F.faults files.old))
         (received (O.written out.old) (O.faults out.old)))
@@ -120,7 +120,7 @@ pub fn run<S: Source, F: Files, O: Sink>(
         (F.left files.new) (F.held files.new) (F.faults files.new))
         (received (O.written out.new) (O.faults out.new)))
         result }
-    ensures others { OthersStay (asked_object (asked_by (map string_bytes words.now.items)))
+    ensures others { OthersUntouched (asked_object (asked_by (map string_bytes words.now.items)))
         input.old input.new files.old files.new }
 {
     let choice = read_words(alloc, words).map_err(fault_of_words)?;

@@ -6,7 +6,7 @@ ghost use Rattle.std.specs.Prelude.{◌≡◌, IfOk, IfSome, Some, option_map};
 ghost use Rattle.pth_base.specs.Limits.{IsGreatestPriority};
 ghost use Rattle.pth_command.specs.CommandLine.{IsWorkload, asked_of};
 ghost use Rattle.pth_streams.specs.Inputs.{inputs};
-ghost use Rattle.pth_filter.specs.Objects.{OthersStay, named};
+ghost use Rattle.pth_filter.specs.Objects.{OthersUntouched, named};
 ghost use Rattle.pth_player.specs.Objects.{asked_object, ObjectCounts};
 ghost use Rattle.pth_streams.specs.Faults.{CountsRead};
 ghost use Rattle.pth_player.specs.Streams.{TakesUpTo};
@@ -56,7 +56,7 @@ fn read_named<S: Source, F: Files>(
     ensures counts { ObjectCounts (named (option_map (λ n. n.now) name.entry))
         (inputs (S.left input.old) (S.faults input.old) (F.left files.old) (F.held files.old) (F.faults files.old))
         (inputs (S.left input.new) (S.faults input.new) (F.left files.new) (F.held files.new) (F.faults files.new)) result }
-    ensures others { OthersStay (named (option_map (λ n. n.now) name.entry)) input.old input.new files.old files.new }
+    ensures others { OthersUntouched (named (option_map (λ n. n.now) name.entry)) input.old input.new files.old files.new }
 {
     match name {
         Some(name) if name != "-" => read_file(alloc, name, files),
@@ -87,7 +87,7 @@ fn read_bytes<S: Source, F: Files>(
     ensures counts { ObjectCounts (asked_object (Some (asked_of choice.now)))
         (inputs (S.left input.old) (S.faults input.old) (F.left files.old) (F.held files.old) (F.faults files.old))
         (inputs (S.left input.new) (S.faults input.new) (F.left files.new) (F.held files.new) (F.faults files.new)) result }
-    ensures others { OthersStay (asked_object (Some (asked_of choice.now))) input.old input.new files.old files.new }
+    ensures others { OthersUntouched (asked_object (Some (asked_of choice.now))) input.old input.new files.old files.new }
 {
     let Some(threads) = choice.generate else {
         return read_named(alloc, choice.file, input, files);
@@ -110,7 +110,7 @@ pub fn read_script<S: Source, F: Files>(
         (inputs (S.left input.old) (S.faults input.old) (F.left files.old) (F.held files.old) (F.faults files.old))
         (inputs (S.left input.new) (S.faults input.new) (F.left files.new) (F.held files.new) (F.faults files.new)) result }
     ensures range { IfOk result (λ read. IsGreatestPriority read.2) }
-    ensures others { OthersStay (asked_object (Some (asked_of choice.now))) input.old input.new files.old files.new }
+    ensures others { OthersUntouched (asked_object (Some (asked_of choice.now))) input.old input.new files.old files.new }
 {
     let bytes = read_bytes(alloc, choice, input, files).map_err(fault_of_read)?;
     read(alloc, &bytes).map_err(fault_of_script)
@@ -127,7 +127,7 @@ pub fn read_upgrade<S: Source, F: Files>(
     ensures upgrade { ReadsText IsUpgrade (asked_object (Some (asked_of choice.now)))
         (inputs (S.left input.old) (S.faults input.old) (F.left files.old) (F.held files.old) (F.faults files.old))
         (inputs (S.left input.new) (S.faults input.new) (F.left files.new) (F.held files.new) (F.faults files.new)) result }
-    ensures others { OthersStay (asked_object (Some (asked_of choice.now))) input.old input.new files.old files.new }
+    ensures others { OthersUntouched (asked_object (Some (asked_of choice.now))) input.old input.new files.old files.new }
 {
     let bytes = read_bytes(alloc, choice, input, files).map_err(fault_of_read)?;
     upgrade(alloc, &bytes).map_err(fault_of_script)

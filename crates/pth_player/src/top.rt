@@ -4,7 +4,7 @@ ghost use Rattle.std.specs.Prelude.{◌≡◌, ◌≤◌, map, string_bytes};
 ghost use Rattle.pth_command.specs.CommandLine.{asked_by};
 ghost use Rattle.pth_streams.specs.Inputs.{inputs};
 ghost use Rattle.pth_streams.specs.Scene.{scene};
-ghost use Rattle.pth_filter.specs.Objects.{OthersStay};
+ghost use Rattle.pth_filter.specs.Objects.{OthersUntouched};
 ghost use Rattle.pth_player.specs.Objects.{asked_object};
 ghost use Rattle.pth_player.specs.Play.{Plays, answer_of};
 ghost use Rattle.pth_streams.specs.Pieces.{received};
@@ -61,7 +61,7 @@ pub fn play<S: Source, F: Files, O: Sink, E: Sink>(
     err: &mut E,
 ) -> u8
     ensures status { result ≤ 7 }
-    ensures others { OthersStay (asked_object (asked_by (map string_bytes words.now.items)))
+    ensures others { OthersUntouched (asked_object (asked_by (map string_bytes words.now.items)))
         input.old input.new files.old files.new }
     ensures plays { Plays (record {
       words = map string_bytes words.now.items;

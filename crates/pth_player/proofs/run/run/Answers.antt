@@ -2,7 +2,7 @@ use Rattle.std.proofs.Common.{Option, map, string_bytes, subst, sym}
 use Rattle.pth_command.specs.CommandLine.{Asked, asked_by, asked_of}
 use Rattle.pth_player.proofs.Runs.{is_asked, others_refl, ran_for, unasked}
 use Rattle.pth_streams.specs.Inputs.{inputs}
-use Rattle.pth_filter.specs.Objects.{OthersStay}
+use Rattle.pth_filter.specs.Objects.{OthersUntouched}
 use Rattle.pth_player.specs.Objects.{asked_object}
 use Rattle.pth_streams.specs.Pieces.{received}
 use Rattle.pth_player.proofs.run.run.Goals as goal
@@ -25,7 +25,7 @@ returns-then-choice-clause-ran g c =
 pub returns-then-choice-clause-others : goal.returns-then-choice-clause-others
 returns-then-choice-clause-others g c =
     let is = is_asked (asked_by (map string_bytes c.args.words.now.items)) c.read_words.result c.map_err.result c.in_ok-choice.choice c.read_words.ensures.answers c.map_err.ensures.cases c.in_ok-choice.was in
-    subst (λ (o : Option Asked). OthersStay (asked_object o) c.args.input.now c.upgrade_script.new.input c.args.files.now c.upgrade_script.new.files) (sym is) c.upgrade_script.ensures.others
+    subst (λ (o : Option Asked). OthersUntouched (asked_object o) c.args.input.now c.upgrade_script.new.input c.args.files.now c.upgrade_script.new.files) (sym is) c.upgrade_script.ensures.others
 
 pub returns-else-choice-clause-ran : goal.returns-else-choice-clause-ran
 returns-else-choice-clause-ran g c =
@@ -36,4 +36,4 @@ returns-else-choice-clause-ran g c =
 pub returns-else-choice-clause-others : goal.returns-else-choice-clause-others
 returns-else-choice-clause-others g c =
     let is = is_asked (asked_by (map string_bytes c.args.words.now.items)) c.read_words.result c.map_err.result c.in_ok-choice.choice c.read_words.ensures.answers c.map_err.ensures.cases c.in_ok-choice.was in
-    subst (λ (o : Option Asked). OthersStay (asked_object o) c.args.input.now c.run_script.new.input c.args.files.now c.run_script.new.files) (sym is) c.run_script.ensures.others
+    subst (λ (o : Option Asked). OthersUntouched (asked_object o) c.args.input.now c.run_script.new.input c.args.files.now c.run_script.new.files) (sym is) c.run_script.ensures.others

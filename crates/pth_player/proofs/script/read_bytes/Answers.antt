@@ -1,6 +1,6 @@
 use Rattle.std.proofs.Common.{IfOk, Some, option_map, subst, sym}
 use Rattle.pth_streams.specs.Inputs.{inputs}
-use Rattle.pth_filter.specs.Objects.{OthersStay}
+use Rattle.pth_filter.specs.Objects.{OthersUntouched}
 use Rattle.pth_command.specs.CommandLine.{asked_of}
 use Rattle.pth_player.specs.Objects.{ObjectCounts, asked_object}
 use Rattle.pth_player.specs.Play.{ReadsBytes}
@@ -25,7 +25,7 @@ returns-in_default-clause-counts g c =
 pub returns-in_default-clause-others : goal.returns-in_default-clause-others
 returns-in_default-clause-others g c =
     let name = option_map (λ n. n.now) c.args.choice.now.file in
-    subst (λ object. OthersStay object c.args.input.now c.read_named.new.input c.args.files.now c.read_named.new.files) (sym (named_object c.args.choice.now.generate name c.in_default.not-Some)) c.read_named.ensures.others
+    subst (λ object. OthersUntouched object c.args.input.now c.read_named.new.input c.args.files.now c.read_named.new.files) (sym (named_object c.args.choice.now.generate name c.in_default.not-Some)) c.read_named.ensures.others
 
 pub returns-in-Ok-clause-bytes : goal.returns-in-Ok-clause-bytes
 returns-in-Ok-clause-bytes g c = workload_bytes c.in-Some.threads c.args.choice.now.generate (option_map (λ n. n.now) c.args.choice.now.file) (inputs (g.S.Source.left c.args.input.now) (g.S.Source.faults c.args.input.now) (g.F.Files.left c.args.files.now) (g.F.Files.held c.args.files.now) (g.F.Files.faults c.args.files.now)) _ c.in-Some.is c.requires c.in-Ok.ensures

@@ -1,4 +1,4 @@
-use Rattle.std.proofs.Common.{◌≡◌, List, ℕ, Bool, codes, not, option_map, Some, Option, IfOk, refl, sym, subst, ap, true, false}
+use Rattle.std.proofs.Common.{◌≡◌, List, ℕ, Bool, codes, not, option_map, Some, Option, IfOk, refl, sym, subst, true, false}
 use Rattle.std.specs.Borrow.{Bor}
 use Rattle.std.specs.Str.{bytes_eq}
 use Rattle.pth_filter.specs.Objects.{OtherStays, is_file, named}
