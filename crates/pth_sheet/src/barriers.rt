@@ -1,4 +1,4 @@
-//! Barriers: `pth_barrier_init`, `pth_barrier_reach`.
+//! Synchronization of pth(3): barriers, `pth_barrier_t`.
 
 ghost use Rattle.std.specs.Prelude.{ℕ, ℤ, not, ◌&&◌, is_some, ◌≡◌, None, Some};
 ghost use Rattle.pth_base.specs.declared.answer.Answer.TheVariants.{Int};
@@ -9,11 +9,12 @@ ghost use Rattle.pth_cond.specs.Barriers.{is_size, barrier_initialised, Barrier,
 ghost use Rattle.pth_model.specs.State.{State};
 ghost use Rattle.pth_model.specs.declared.awaits.Awaits.TheVariants as awaits;
 ghost use Rattle.pth_sheet.specs.Outcomes.{Begins, refused, ◌when◌otherwise◌, ◌then◌, returns, answers, waits_for, GoesOn};
-ghost use Rattle.pth_sheet.specs.States.{barriers_become, is_unblocked};
+ghost use Rattle.pth_sheet.specs.States.{barriers_become, unblocks};
 
 use pth_base::program::Program;
 
-/// `pth_barrier_init` initialises a barrier for a number of threads.
+/// This dynamically initializes a barrier variable `b` with threshold `n`. Here there are 64 of them, each is initialized once, and `n` is
+/// 1 to 4096.
 pub fn pth_barrier_init<P: Program>()
     ensures { (s : State P P.State P.Shared) (t : ℕ) (b n : ℤ) →
         Begins P.functions s t (call.BarrierInit b n) (
@@ -22,10 +23,12 @@ pub fn pth_barrier_init<P: Program>()
         barriers_become (barrier_initialised b n) then returns 1) }
 {}
 
-/// `pth_barrier_reach` suspends its thread until as many threads as the barrier is for have reached it. The last is answered
-/// `PTH_BARRIER_TAILLIGHT`, and the first `PTH_BARRIER_HEADLIGHT`. The wait is no cancellation point.
+/// This function reaches a barrier `b`. If this is the last thread (as specified by the threshold on init of the barrier), all threads are
+/// awakened. Else the current thread is suspended until the last thread reached the barrier and this way awakes all threads. The function
+/// returns the value TRUE for any thread which reached the barrier neither as the first nor as the last thread, `PTH_BARRIER_HEADLIGHT`
+/// (-1) for the first thread, and `PTH_BARRIER_TAILLIGHT` (-2) for the last thread. Here this wait is no cancellation point.
 pub fn pth_barrier_reach<P: Program>()
-    ensures none { (s : State P P.State P.Shared) (t : ℕ) (b : ℤ) →
+    ensures no_barrier { (s : State P P.State P.Shared) (t : ℕ) (b : ℤ) →
         s.control.barriers (object_named b) ≡ None →
         Begins P.functions s t (call.BarrierReach b) (refused EINVAL) }
     ensures begins { (s : State P P.State P.Shared) (t : ℕ) (b : ℤ) (y : Barrier) →
@@ -36,7 +39,7 @@ pub fn pth_barrier_reach<P: Program>()
         barriers_become (barrier_reached b t) then waits_for (awaits.Round b y.round)) }
     ensures goes_on { (s : State P P.State P.Shared) (t : ℕ) (b : ℤ) (r : ℕ) →
         GoesOn P.functions s t (call.BarrierReach b) (awaits.Round b r) (
-        barriers_become (round_answered b r t) then is_unblocked t then
+        barriers_become (round_answered b r t) then unblocks t then
         answers (Int (round_answer s.control.barriers b r t))
         when has_passed s.control.barriers b r otherwise
         waits_for (awaits.Round b r)) }

@@ -1,4 +1,4 @@
-//! Cancellation: `pth_cancel_point`, `pth_cancel_state`.
+//! Cancellation Management of pth(3): `pth_cancel_state`, `pth_cancel_point`.
 
 ghost use Rattle.std.specs.Prelude.{ℕ, ℤ, not, pos};
 ghost use Rattle.pth_base.specs.declared.call.Call.TheVariants as call;
@@ -8,24 +8,27 @@ ghost use Rattle.pth_threads.specs.declared.entry.Change.TheVariants as change;
 ghost use Rattle.pth_model.specs.Cancellation.{is_to_cancel};
 ghost use Rattle.pth_model.specs.Changes.{sets};
 ghost use Rattle.pth_model.specs.State.{State};
-ghost use Rattle.pth_sheet.specs.Outcomes.{Begins, is_canceled, ◌when◌otherwise◌, returns, refused, ◌then◌};
+ghost use Rattle.pth_sheet.specs.Outcomes.{Begins, canceled, ◌when◌otherwise◌, returns, refused, ◌then◌};
 ghost use Rattle.pth_sheet.specs.States.{entry_of, control_becomes};
 
 use pth_base::program::Program;
 
-/// `pth_cancel_point` ends its thread if the thread was asked to end, and can be canceled.
-pub fn pth_cancel_point<P: Program>()
-    ensures { (s : State P P.State P.Shared) (t : ℕ) →
-        Begins P.functions s t call.CancelPoint (
-        is_canceled P.functions when is_to_cancel (entry_of s t) otherwise
-        returns 1) }
-{}
-
-/// `pth_cancel_state` sets the cancel state of its thread, and returns the state until then. 0 only asks.
+/// This manages the cancellation state of the current thread, and returns the old cancellation state. When `n` is not 0 it sets the new
+/// cancellation state. A state is a combination of `PTH_CANCEL_ENABLE` or `PTH_CANCEL_DISABLE` and `PTH_CANCEL_DEFERRED` or
+/// `PTH_CANCEL_ASYNCHRONOUS`. Here these are numbered: 1 and 2 are deferred, 3 and 4 are asynchronous, 1 and 3 are enabled.
 pub fn pth_cancel_state<P: Program>()
     ensures { (s : State P P.State P.Shared) (t : ℕ) (n : ℤ) →
         Begins P.functions s t (call.CancelState n) (
         refused EINVAL when not (n is_from pos 0 to pos 4) otherwise
         returns (entry_of s t).cancel when is_zero n otherwise
         control_becomes (sets t (change.Cancel (number n))) then returns (entry_of s t).cancel) }
+{}
+
+/// This explicitly enters a cancellation point. When the current cancellation state is `PTH_CANCEL_DISABLE` or no cancellation request is
+/// pending, this has no side effect and returns immediately. Else it calls `pth_exit(PTH_CANCELED)`.
+pub fn pth_cancel_point<P: Program>()
+    ensures { (s : State P P.State P.Shared) (t : ℕ) →
+        Begins P.functions s t call.CancelPoint (
+        canceled P.functions when is_to_cancel (entry_of s t) otherwise
+        returns 1) }
 {}

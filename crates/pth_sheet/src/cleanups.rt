@@ -1,4 +1,6 @@
-//! Cleanup handlers: `pth_cleanup_push`, `pth_cleanup_pop`.
+//! Thread Cleanups of pth(3): `pth_cleanup_push`, `pth_cleanup_pop`.
+//!
+//! In which order the routines of a terminating thread are called, and the destructors of its keys, is in `Ending.antt` of `pth_model`.
 
 ghost use Rattle.std.specs.Prelude.{ℕ, ℤ, ◌≡◌, None, Some};
 ghost use Rattle.pth_base.specs.declared.call.Call.TheVariants as call;
@@ -13,7 +15,8 @@ ghost use Rattle.pth_sheet.specs.States.{cleanups_of, cleanups_become};
 
 use pth_base::program::Program;
 
-/// `pth_cleanup_push` puts a cleanup handler on top of those of the calling thread.
+/// This pushes the routine `h` with the argument `v` onto the stack of cleanup routines for the current thread. These routines are called
+/// in LIFO order when the thread terminates. Here a stack has at most 256 routines.
 pub fn pth_cleanup_push<P: Program>()
     ensures { (s : State P P.State P.Shared) (t : ℕ) (h v : ℤ) →
         Begins P.functions s t (call.CleanupPush h v) (
@@ -21,9 +24,10 @@ pub fn pth_cleanup_push<P: Program>()
         cleanups_become (with_top t (handler h, v)) then returns 1) }
 {}
 
-/// `pth_cleanup_pop` takes the top cleanup handler of the calling thread away, and runs it, unless v is 0.
+/// This pops the top-most routine from the stack of cleanup routines for the current thread. When `v` is TRUE (not 0), the routine is
+/// additionally called.
 pub fn pth_cleanup_pop<P: Program>()
-    ensures none { (s : State P P.State P.Shared) (t : ℕ) (v : ℤ) →
+    ensures no_routine { (s : State P P.State P.Shared) (t : ℕ) (v : ℤ) →
         pop_answer (cleanups_of s) t ≡ None →
         Begins P.functions s t (call.CleanupPop v) (refused EINVAL) }
     ensures popped { (s : State P P.State P.Shared) (t : ℕ) (v : ℤ) (x : PushedHandler) →

@@ -1,4 +1,4 @@
-//! Conditions: `pth_cond_init`, `pth_cond_await`, `pth_cond_notify`.
+//! Synchronization of pth(3): condition variables, `pth_cond_t`.
 
 ghost use Rattle.std.specs.Prelude.{ℕ, ℤ, not, ◌≡◌, false, ◌||◌, is_none, true};
 ghost use Rattle.pth_base.specs.declared.call.Call.TheVariants as call;
@@ -13,12 +13,12 @@ ghost use Rattle.pth_model.specs.RingWaits.{ring_seats, extra_ring};
 ghost use Rattle.pth_model.specs.State.{State};
 ghost use Rattle.pth_model.specs.declared.awaits.Awaits.TheVariants as awaits;
 ghost use Rattle.pth_model.specs.declared.awaits.Retake.TheVariants as retake;
-ghost use Rattle.pth_sheet.specs.Outcomes.{Begins, refused, ◌when◌otherwise◌, ◌then◌, returns, waits_for, GoesOn, takes_request, ◌before◌, retakes, tells_of_mutex, ends, still_waits};
-ghost use Rattle.pth_sheet.specs.States.{is_condition, conditions_become, is_no_ring_of, is_mutex, mutex_of, ring_is_in_use, ring_is_claimed, mutexes_become, awaits_condition, control_becomes, is_unblocked, has_event_come};
+ghost use Rattle.pth_sheet.specs.Outcomes.{Begins, refused, ◌when◌otherwise◌, ◌then◌, returns, waits_for, GoesOn, clears_request, ◌before◌, retakes, marks_mutex_taken, ends, still_waits};
+ghost use Rattle.pth_sheet.specs.States.{is_condition, conditions_become, is_no_ring_of, is_mutex, mutex_of, ring_is_in_use, claims_ring, mutexes_become, sets_awaiting, control_becomes, unblocks, has_event_settled};
 
 use pth_base::program::Program;
 
-/// `pth_cond_init` initialises a condition. Nobody waits there.
+/// This dynamically initializes a condition variable `c`. Here there are 64 of them, and each is initialized once.
 pub fn pth_cond_init<P: Program>()
     ensures { (s : State P P.State P.Shared) (t : ℕ) (c : ℤ) →
         Begins P.functions s t (call.CondInit c) (
@@ -27,9 +27,12 @@ pub fn pth_cond_init<P: Program>()
         conditions_become (cond_initialised c) then returns 1) }
 {}
 
-/// `pth_cond_await` releases a mutex, and suspends its thread until the condition is notified, or an event of the ring occurs. The thread
-/// has the mutex again before the call returns, also before the thread ends where it is canceled. It is a cancellation point until then.
-/// The thread that calls awaits no condition, and awaits one until it has its mutex again.
+/// This awaits a condition situation. The mutex `m` has to be acquired before this function is called. The execution of the current thread
+/// is then suspended either until the events in `e` occurred (when `e` is not NULL, 0) or `c` was notified by another thread via
+/// pth_cond_notify(3). While the thread is waiting, `m` is released. Before it returns, `m` is reacquired. Here an event that comes first
+/// is answered EINTR, and a canceled thread reacquires `m` before it ends.
+///
+/// The premise holds in every run: the flag `awaits` of a thread is set from its wait until it has `m` again.
 pub fn pth_cond_await<P: Program>()
     ensures begins { (s : State P P.State P.Shared) (t : ℕ) (c m e : ℤ) →
         s.resources.awaits t ≡ false →
@@ -39,38 +42,39 @@ pub fn pth_cond_await<P: Program>()
         refused EDEADLK when is_none (owner_of (mutex_of s m)) otherwise
         refused EACCES when is_anothers t (mutex_of s m) otherwise
         refused EBUSY when ring_is_in_use s e otherwise
-        conditions_become (seat_entered c (seat_of t)) then ring_is_claimed t e then
-        mutexes_become (mutex_released t (object_named m)) then awaits_condition t true then
+        conditions_become (seat_entered c (seat_of t)) then claims_ring t e then
+        mutexes_become (mutex_released t (object_named m)) then sets_awaiting t true then
         waits_for (awaits.Notice c)) }
     ensures goes_on { (s : State P P.State P.Shared) (t : ℕ) (c m e : ℤ) →
         s.resources.awaits t ≡ true →
         GoesOn P.functions s t (call.CondAwait c m e) (awaits.Notice c) (
-        takes_request t (call.CondAwait c m e) before
+        clears_request t (call.CondAwait c m e) before
         conditions_become (seat_handed_on c (seat_of t)) then
-        control_becomes (ring_seats seat_handed_on (extra_ring e)) then is_unblocked t then
-        retakes m retake.Canceled (tells_of_mutex t m before ends P.functions canceled_value)
+        control_becomes (ring_seats seat_handed_on (extra_ring e)) then unblocks t then
+        retakes m retake.Canceled (marks_mutex_taken t m before ends P.functions canceled_value)
         when may_be_canceled s.control t otherwise
-        conditions_become (seat_left c (seat_of t)) then is_unblocked t then
+        conditions_become (seat_left c (seat_of t)) then unblocks t then
         retakes m retake.Notified (returns 1) when is_noticed s t c otherwise
-        conditions_become (seat_left c (seat_of t)) then is_unblocked t then
-        retakes m retake.Interrupted (refused EINTR) when has_event_come s e otherwise
+        conditions_become (seat_left c (seat_of t)) then unblocks t then
+        retakes m retake.Interrupted (refused EINTR) when has_event_settled s e otherwise
         still_waits) }
-    ensures takes_mutex_back { (s : State P P.State P.Shared) (t : ℕ) (c m e n : ℤ) →
+    ensures takes_mutex_back_notified { (s : State P P.State P.Shared) (t : ℕ) (c m e n : ℤ) →
         s.resources.awaits t ≡ true →
         GoesOn P.functions s t (call.CondAwait c m e) (awaits.Retaking n retake.Notified) (
-        is_unblocked t then retakes m retake.Notified (returns 1)) }
+        unblocks t then retakes m retake.Notified (returns 1)) }
     ensures takes_mutex_back_interrupted { (s : State P P.State P.Shared) (t : ℕ) (c m e n : ℤ) →
         s.resources.awaits t ≡ true →
         GoesOn P.functions s t (call.CondAwait c m e) (awaits.Retaking n retake.Interrupted) (
-        is_unblocked t then retakes m retake.Interrupted (refused EINTR)) }
+        unblocks t then retakes m retake.Interrupted (refused EINTR)) }
     ensures takes_mutex_back_canceled { (s : State P P.State P.Shared) (t : ℕ) (c m e n : ℤ) →
         s.resources.awaits t ≡ true →
         GoesOn P.functions s t (call.CondAwait c m e) (awaits.Retaking n retake.Canceled) (
-        is_unblocked t then retakes m retake.Canceled (tells_of_mutex t m before
+        unblocks t then retakes m retake.Canceled (marks_mutex_taken t m before
         ends P.functions canceled_value)) }
 {}
 
-/// `pth_cond_notify` notifies the first who waits at a condition and was not notified yet, or all of them (`broadcast`).
+/// This notifies one or all threads which are waiting on `c`. When `v` is TRUE (not 0) all threads are notified, else only a single
+/// (unspecified) one. Here it is the one that has waited longest of those that are not notified yet.
 pub fn pth_cond_notify<P: Program>()
     ensures { (s : State P P.State P.Shared) (t : ℕ) (c v : ℤ) →
         Begins P.functions s t (call.CondNotify c v) (

@@ -1,4 +1,4 @@
-//! Key-based storage: `pth_key_create` to `pth_key_getdata`.
+//! Key-Based Storage of pth(3): `pth_key_create` to `pth_key_getdata`.
 
 ghost use Rattle.std.specs.Prelude.{ℕ, Option, ℤ, ◌≡◌, None, Some, not};
 ghost use Rattle.pth_base.specs.declared.answer.Answer.TheVariants.{Int};
@@ -12,9 +12,10 @@ ghost use Rattle.pth_sheet.specs.States.{keys_of, keys_become};
 
 use pth_base::program::Program;
 
-/// `pth_key_create` makes a key, with a destructor or without: the least free key. The value of each thread is 0.
+/// This creates a new unique key and returns it. Additionally `h` can specify a destructor function which is called on the current thread's
+/// termination with the key. Here it is the least free key, and there are at most 256.
 pub fn pth_key_create<P: Program>()
-    ensures none { (s : State P P.State P.Shared) (t : ℕ) (h : Option ℤ) →
+    ensures no_key_free { (s : State P P.State P.Shared) (t : ℕ) (h : Option ℤ) →
         free_key (keys_of s) ≡ None →
         Begins P.functions s t (call.KeyCreate h) (refused EAGAIN) }
     ensures made { (s : State P P.State P.Shared) (t : ℕ) (h : Option ℤ) (k : ℕ) →
@@ -23,7 +24,7 @@ pub fn pth_key_create<P: Program>()
         keys_become (created k (destructor_by h)) then returns k) }
 {}
 
-/// `pth_key_delete` deletes a key. Its destructor is not run.
+/// This explicitly destroys a key `k`. Here its destructor is not called.
 pub fn pth_key_delete<P: Program>()
     ensures { (s : State P P.State P.Shared) (t : ℕ) (k : ℤ) →
         Begins P.functions s t (call.KeyDelete k) (
@@ -31,7 +32,7 @@ pub fn pth_key_delete<P: Program>()
         keys_become (deleted (key_named k)) then returns 1) }
 {}
 
-/// `pth_key_setdata` sets the value of the calling thread under a key.
+/// This stores value `v` under key `k`, for the current thread `t`.
 pub fn pth_key_setdata<P: Program>()
     ensures { (s : State P P.State P.Shared) (t : ℕ) (k v : ℤ) →
         Begins P.functions s t (call.KeySet k v) (
@@ -39,7 +40,7 @@ pub fn pth_key_setdata<P: Program>()
         keys_become (with_key_value t (key_named k) v) then returns 1) }
 {}
 
-/// `pth_key_getdata` returns the value of the calling thread under a key.
+/// This retrieves the value under key `k`, of the current thread `t`.
 pub fn pth_key_getdata<P: Program>()
     ensures { (s : State P P.State P.Shared) (t : ℕ) (k : ℤ) →
         Begins P.functions s t (call.KeyGet k) (

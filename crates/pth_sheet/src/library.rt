@@ -1,4 +1,4 @@
-//! Library control: `pth_kill`, `pth_ctrl`.
+//! Global Library Management of pth(3): `pth_kill`, `pth_ctrl`.
 
 ghost use Rattle.std.specs.Prelude.{ℕ, not, ◌==◌, length, ℤ, pos, if◌then◌else◌};
 ghost use Rattle.pth_base.specs.declared.answer.Answer.TheVariants.{Int, Text};
@@ -12,21 +12,25 @@ ghost use Rattle.pth_model.specs.LibraryControl.{running_count};
 ghost use Rattle.pth_model.specs.State.{State, main, present, queue};
 ghost use Rattle.pth_model.specs.ThreadControl.{is_known};
 ghost use Rattle.pth_sheet.specs.Outcomes.{Begins, refused, ◌when◌otherwise◌, ◌then◌, kills, returns, answers};
-ghost use Rattle.pth_sheet.specs.States.{only_is_left, control_becomes, thread_of};
+ghost use Rattle.pth_sheet.specs.States.{leaves_only, control_becomes, thread_of};
 
 use pth_base::program::Program;
 
-/// `pth_kill` ends the run. Only the main thread may call it. Of all threads it alone is left.
+/// This kills the Pth library. It has to be called from within the main thread. It implicitly kills all threads. It returns immediately
+/// with FALSE (here EPERM) if it is not called from within the main thread. Else it kills the threading system and returns TRUE. Here the
+/// run then ends.
 pub fn pth_kill<P: Program>()
     ensures { (s : State P P.State P.Shared) (t : ℕ) →
         Begins P.functions s t call.Kill (
         refused EPERM when not (t == main) otherwise
-        only_is_left t then kills) }
+        leaves_only t then kills) }
 {}
 
-/// `pth_ctrl` returns how many threads there are, and how many are new, ready, running, waiting, suspended or dead (`PTH_CTRL_GETTHREADS`).
-/// It sets whether new threads are favoured, and returns the setting until then (`PTH_CTRL_FAVOURNEW`). It returns a thread's priority and
-/// name (`PTH_CTRL_GETPRIO`, `PTH_CTRL_GETNAME`).
+/// This is a generalized query/control function for the Pth library. `PTH_CTRL_GETTHREADS` returns the total number of threads currently in
+/// existence, and `PTH_CTRL_GETTHREADS_NEW`, `_READY`, `_RUNNING`, `_WAITING`, `_SUSPENDED` and `_DEAD` return the number of threads in a
+/// particular state. `PTH_CTRL_GETPRIO` returns the priority of the given thread `n`, and `PTH_CTRL_GETNAME` its name. `PTH_CTRL_FAVOURNEW`
+/// specifies whether the scheduler favours new threads on startup, i.e., whether they are moved from the new queue to the top or middle of
+/// the ready queue. Here it returns the old setting, and `PTH_CTRL_GETAVLOAD` and `PTH_CTRL_DUMPSTATE` are left out.
 pub fn pth_ctrl<P: Program>()
     ensures threads { (s : State P P.State P.Shared) (t : ℕ) →
         Begins P.functions s t (call.Ctrl query.Threads) (returns (present s.control)) }
@@ -48,11 +52,6 @@ pub fn pth_ctrl<P: Program>()
     ensures dead { (s : State P P.State P.Shared) (t : ℕ) →
         Begins P.functions s t (call.Ctrl query.Dead) (
         returns (length (queue s.control ranked.Dead))) }
-    ensures favour_new { (s : State P P.State P.Shared) (t : ℕ) (n : ℤ) →
-        Begins P.functions s t (call.Ctrl (query.Favournew n)) (
-        refused EINVAL when not (n is_from pos 0 to pos 1) otherwise
-        control_becomes (favours_new (n is 1)) then returns (if s.control.scheduler.favour_new then
-        1 else 0)) }
     ensures priority { (s : State P P.State P.Shared) (t : ℕ) (n : ℤ) →
         Begins P.functions s t (call.Ctrl (query.Prio n)) (
         refused ESRCH when not (is_known s.control n) otherwise
@@ -61,4 +60,9 @@ pub fn pth_ctrl<P: Program>()
         Begins P.functions s t (call.Ctrl (query.Name n)) (
         refused ESRCH when not (is_known s.control n) otherwise
         answers (Text (thread_of s n).name)) }
+    ensures favour_new { (s : State P P.State P.Shared) (t : ℕ) (n : ℤ) →
+        Begins P.functions s t (call.Ctrl (query.Favournew n)) (
+        refused EINVAL when not (n is_from pos 0 to pos 1) otherwise
+        control_becomes (favours_new (n is 1)) then
+        returns (if s.control.scheduler.favour_new then 1 else 0)) }
 {}

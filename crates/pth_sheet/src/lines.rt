@@ -1,4 +1,4 @@
-//! The two lines of a body that call nothing.
+//! The two lines of a body that are no calls of Pth.
 
 ghost use Rattle.std.specs.Prelude.{ℕ, ℤ};
 ghost use Rattle.pth_base.specs.declared.call.Call.TheVariants as call;

@@ -1,4 +1,4 @@
-//! Mutexes: `pth_mutex_init`, `pth_mutex_acquire`, `pth_mutex_release`.
+//! Synchronization of pth(3): mutexes, `pth_mutex_t`.
 
 ghost use Rattle.std.specs.Prelude.{ℕ, ℤ, not, ◌==◌, ◌||◌, is_none};
 ghost use Rattle.pth_base.specs.declared.call.Call.TheVariants as call;
@@ -10,12 +10,12 @@ ghost use Rattle.pth_model.specs.Cancellation.{may_be_canceled};
 ghost use Rattle.pth_model.specs.Mutexes.{is_free};
 ghost use Rattle.pth_model.specs.State.{State};
 ghost use Rattle.pth_model.specs.declared.awaits.Awaits.TheVariants as awaits;
-ghost use Rattle.pth_sheet.specs.Outcomes.{Begins, refused, ◌when◌otherwise◌, ◌then◌, returns, waits_for, GoesOn, is_canceled};
-ghost use Rattle.pth_sheet.specs.States.{is_mutex, mutexes_become, is_no_ring_of, mutex_of, ring_is_in_use, ring_is_claimed, is_unblocked, has_event_come};
+ghost use Rattle.pth_sheet.specs.Outcomes.{Begins, refused, ◌when◌otherwise◌, ◌then◌, returns, waits_for, GoesOn, canceled};
+ghost use Rattle.pth_sheet.specs.States.{is_mutex, mutexes_become, is_no_ring_of, mutex_of, ring_is_in_use, claims_ring, unblocks, has_event_settled};
 
 use pth_base::program::Program;
 
-/// `pth_mutex_init` initialises a mutex. Nobody has it.
+/// This dynamically initializes a mutex variable `m`. Here there are 64 of them, and each is initialized once.
 pub fn pth_mutex_init<P: Program>()
     ensures { (s : State P P.State P.Shared) (t : ℕ) (m : ℤ) →
         Begins P.functions s t (call.MutexInit m) (
@@ -24,8 +24,11 @@ pub fn pth_mutex_init<P: Program>()
         mutexes_become (mutex_initialised (object_named m)) then returns 1) }
 {}
 
-/// `pth_mutex_acquire` acquires a mutex. A thread that has it has one level more. If another thread has it, the calling thread is suspended
-/// until the mutex is released, or an event of the ring occurs; if it only tries, it is refused.
+/// This acquires a mutex `m`. If the mutex is already locked by another thread, the current thread's execution is suspended until the mutex
+/// is unlocked again or additionally the extra events in `e` occurred (when `e` is not NULL, 0). Recursive locking is explicitly supported,
+/// i.e., a thread is allowed to acquire a mutex more than once before it is released. But it then also has to be released the same number
+/// of times. When `v` is TRUE (not 0) this function never suspends execution. Instead it returns FALSE with `errno` set to EBUSY. Here an
+/// event that comes first is answered EINTR.
 pub fn pth_mutex_acquire<P: Program>()
     ensures begins { (s : State P P.State P.Shared) (t : ℕ) (m v e : ℤ) →
         Begins P.functions s t (call.MutexAcquire m v e) (
@@ -35,17 +38,17 @@ pub fn pth_mutex_acquire<P: Program>()
         mutexes_become (mutex_taken t (object_named m)) then returns 1
         when not (is_anothers t (mutex_of s m)) otherwise
         refused EBUSY when not (is_zero v) || ring_is_in_use s e otherwise
-        ring_is_claimed t e then waits_for (awaits.Mutex m)) }
+        claims_ring t e then waits_for (awaits.Mutex m)) }
     ensures goes_on { (s : State P P.State P.Shared) (t : ℕ) (m v e : ℤ) →
         GoesOn P.functions s t (call.MutexAcquire m v e) (awaits.Mutex m) (
-        is_canceled P.functions when may_be_canceled s.control t otherwise
-        mutexes_become (mutex_taken t (object_named m)) then is_unblocked t then returns 1
+        canceled P.functions when may_be_canceled s.control t otherwise
+        mutexes_become (mutex_taken t (object_named m)) then unblocks t then returns 1
         when is_free s m otherwise
-        is_unblocked t then refused EINTR when has_event_come s e otherwise
+        unblocks t then refused EINTR when has_event_settled s e otherwise
         waits_for (awaits.Mutex m)) }
 {}
 
-/// `pth_mutex_release` gives back one level of a mutex. With the last level the mutex is free.
+/// This decrements the recursion locking count on mutex `m`, and when it is zero it releases the mutex.
 pub fn pth_mutex_release<P: Program>()
     ensures { (s : State P P.State P.Shared) (t : ℕ) (m : ℤ) →
         Begins P.functions s t (call.MutexRelease m) (

@@ -1,4 +1,4 @@
-//! Read-write locks: `pth_rwlock_init`, `pth_rwlock_acquire`, `pth_rwlock_release`.
+//! Synchronization of pth(3): read-write locks, `pth_rwlock_t`.
 
 ghost use Rattle.std.specs.Prelude.{ℕ, ℤ, not, Bool, ◌||◌, ◌&&◌};
 ghost use Rattle.pth_base.specs.declared.call.Call.TheVariants as call;
@@ -10,12 +10,12 @@ ghost use Rattle.pth_model.specs.Cancellation.{may_be_canceled};
 ghost use Rattle.pth_model.specs.Rwlocks.{is_open};
 ghost use Rattle.pth_model.specs.State.{State};
 ghost use Rattle.pth_model.specs.declared.awaits.Awaits.TheVariants as awaits;
-ghost use Rattle.pth_sheet.specs.Outcomes.{Begins, refused, ◌when◌otherwise◌, ◌then◌, returns, waits_for, GoesOn, is_canceled};
-ghost use Rattle.pth_sheet.specs.States.{locks_of, locks_become, is_no_ring_of, ring_is_in_use, ring_is_claimed, is_unblocked, has_event_come};
+ghost use Rattle.pth_sheet.specs.Outcomes.{Begins, refused, ◌when◌otherwise◌, ◌then◌, returns, waits_for, GoesOn, canceled};
+ghost use Rattle.pth_sheet.specs.States.{locks_of, locks_become, is_no_ring_of, ring_is_in_use, claims_ring, unblocks, has_event_settled};
 
 use pth_base::program::Program;
 
-/// `pth_rwlock_init` initialises a read-write lock. Nobody holds it.
+/// This dynamically initializes a read-write lock variable `l`. Here there are 64 of them, and each is initialized once.
 pub fn pth_rwlock_init<P: Program>()
     ensures { (s : State P P.State P.Shared) (t : ℕ) (l : ℤ) →
         Begins P.functions s t (call.RwInit l) (
@@ -24,8 +24,11 @@ pub fn pth_rwlock_init<P: Program>()
         locks_become (lock_initialised (object_named l)) then returns 1) }
 {}
 
-/// `pth_rwlock_acquire` acquires a read-write lock to read (`PTH_RWLOCK_RD`), while no thread writes, or to write (`PTH_RWLOCK_RW`), while
-/// no thread holds it. Else the calling thread is suspended until it may, or an event of the ring occurs; if it only tries, it is refused.
+/// This acquires a read-only (`PTH_RWLOCK_RD`) or a read-write (`PTH_RWLOCK_RW`, `write`) lock `l`. When the lock is only locked by other
+/// threads in read-only mode, a read-only lock succeeds. But when one thread holds a read-write lock, all locking attempts suspend the
+/// current thread until this lock is released again. Additionally in `e` events can be given to let the locking time out. When `v` is TRUE
+/// (not 0) this function never suspends execution. Instead it returns FALSE with `errno` set to EBUSY. Here a thread that holds the lock is
+/// refused (EDEADLK). An event that comes first is answered EINTR.
 pub fn pth_rwlock_acquire<P: Program>()
     ensures begins { (s : State P P.State P.Shared) (t : ℕ) (l : ℤ) (write : Bool) (v e : ℤ) →
         Begins P.functions s t (call.RwAcquire l write v e) (
@@ -35,17 +38,17 @@ pub fn pth_rwlock_acquire<P: Program>()
         locks_become (lock_taken t write (object_named l)) then returns 1
         when may_enter (locks_of s) write (object_named l) otherwise
         refused EBUSY when not (is_zero v) || ring_is_in_use s e otherwise
-        ring_is_claimed t e then waits_for (awaits.Lock l write)) }
+        claims_ring t e then waits_for (awaits.Lock l write)) }
     ensures goes_on { (s : State P P.State P.Shared) (t : ℕ) (l : ℤ) (write : Bool) (v e : ℤ) →
         GoesOn P.functions s t (call.RwAcquire l write v e) (awaits.Lock l write) (
-        is_canceled P.functions when may_be_canceled s.control t otherwise
-        locks_become (lock_taken t write (object_named l)) then is_unblocked t then returns 1
+        canceled P.functions when may_be_canceled s.control t otherwise
+        locks_become (lock_taken t write (object_named l)) then unblocks t then returns 1
         when is_open s write l && not (holds (locks_of s) t (object_named l)) otherwise
-        is_unblocked t then refused EINTR when has_event_come s e otherwise
+        unblocks t then refused EINTR when has_event_settled s e otherwise
         waits_for (awaits.Lock l write)) }
 {}
 
-/// `pth_rwlock_release` gives a read-write lock back.
+/// This releases a previously acquired (read-only or read-write) lock `l`.
 pub fn pth_rwlock_release<P: Program>()
     ensures { (s : State P P.State P.Shared) (t : ℕ) (l : ℤ) →
         Begins P.functions s t (call.RwRelease l) (

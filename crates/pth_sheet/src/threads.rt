@@ -1,6 +1,6 @@
-//! Thread control: `pth_spawn` to `pth_exit`.
+//! Thread Control of pth(3): `pth_spawn` to `pth_exit`.
 
-ghost use Rattle.std.specs.Prelude.{ℕ, ℤ, ◌≡◌, Err, not, Ok, ◌+◌, false, ◌||◌, true, pos, Some, None, nat_le, nat_lt, ◌&&◌, ◌==◌};
+ghost use Rattle.std.specs.Prelude.{ℕ, ℤ, ◌≡◌, Err, not, Ok, ◌+◌, false, ◌||◌, true, pos, Some, None, nat_le, nat_lt};
 ghost use Rattle.pth_base.specs.declared.answer.Answer.TheVariants.{Int};
 ghost use Rattle.pth_base.specs.declared.call.Call.TheVariants as call;
 ghost use Rattle.pth_base.specs.declared.errno.Errno.{Errno};
@@ -18,21 +18,23 @@ ghost use Rattle.pth_model.specs.Changes.{makes, enters, uses, leaves_queue, set
 ghost use Rattle.pth_model.specs.Living.{is_dead};
 ghost use Rattle.pth_model.specs.Resources.{handler};
 ghost use Rattle.pth_model.specs.RingWaits.{claims};
-ghost use Rattle.pth_model.specs.State.{State, once_limit, now_of, main, present};
+ghost use Rattle.pth_model.specs.State.{State, once_limit, now_of, main};
 ghost use Rattle.pth_model.specs.ThreadControl.{values_for, has_room, is_known, may_run, to_join};
 ghost use Rattle.pth_model.specs.ThreadEnds.{must_wait};
 ghost use Rattle.pth_model.specs.Times.{is_negative, moment_after, length_of};
 ghost use Rattle.pth_model.specs.Transition.{◌and◌};
 ghost use Rattle.pth_model.specs.declared.awaits.Awaits.TheVariants as awaits;
-ghost use Rattle.pth_sheet.specs.Outcomes.{refused, Begins, ◌when◌otherwise◌, ◌then◌, returns, ◌before◌, yields, waits_for, GoesOn, is_canceled, cancels, answers, ends};
-ghost use Rattle.pth_sheet.specs.States.{control_becomes, thread_of, entry_of, is_unblocked};
+ghost use Rattle.pth_sheet.specs.Outcomes.{refused, Begins, ◌when◌otherwise◌, ◌then◌, returns, ◌before◌, yields, waits_for, GoesOn, canceled, cancels, answers, ends};
+ghost use Rattle.pth_sheet.specs.States.{control_becomes, thread_of, entry_of, unblocks, has_none_to_join, joins_unknown, joins_detached};
 
 use pth_base::program::Program;
 
-/// `pth_spawn` makes a thread, with the attributes of an attribute object, or with those of the calling thread for 0 (`PTH_ATTR_DEFAULT`).
-/// The thread enters the new queue at its priority. Its number is returned.
+/// This spawns a new thread with the attributes given in `a` (or `PTH_ATTR_DEFAULT`, 0, for default attributes, which means that thread
+/// priority, joinability and cancel state are inherited from the current thread) with the starting point at routine `b`, which is called
+/// with `v`. The new thread is moved into the new queue of the scheduler. The function returns NULL on error. Here a routine is a body of
+/// the program, and at most 4096 threads are in the system.
 pub fn pth_spawn<P: Program>()
-    ensures refused { (s : State P P.State P.Shared) (t : ℕ) (b v a : ℤ) (e : Errno) →
+    ensures attributes_refused { (s : State P P.State P.Shared) (t : ℕ) (b v a : ℤ) (e : Errno) →
         values_for s.control t a ≡ Err e →
         Begins P.functions s t (call.Spawn b v a) (
         refused EINVAL when not (is_below b (P.functions s.control.program).bodies) otherwise
@@ -47,7 +49,8 @@ pub fn pth_spawn<P: Program>()
         returns (s.control.threads.made + 1)) }
 {}
 
-/// `pth_once` runs a function for its caller, the first time that it is called for a control.
+/// This makes sure that a constructor function `h` is called only once as `h(v)` in the system, by the control variable `o`. Only the first
+/// call by any thread in the system succeeds. Here a later call also returns 1, and calls nothing.
 pub fn pth_once<P: Program>()
     ensures { (s : State P P.State P.Shared) (t : ℕ) (o h v : ℤ) →
         Begins P.functions s t (call.Once o h v) (
@@ -57,14 +60,15 @@ pub fn pth_once<P: Program>()
         returns 1) }
 {}
 
-/// `pth_self` returns the calling thread.
+/// This just returns the unique thread handle of the currently running thread.
 pub fn pth_self<P: Program>()
     ensures { (s : State P P.State P.Shared) (t : ℕ) →
         Begins P.functions s t call.SelfTid (returns t) }
 {}
 
-/// `pth_suspend` takes a thread out of scheduling until `pth_resume`: it leaves the queue of its state, and stands among the suspended
-/// threads. A thread cannot suspend itself.
+/// This suspends a thread `n` until it is manually resumed again via pth_resume(3). For this, the thread is moved to the suspended queue,
+/// and this way is completely out of the scheduler's event handling and thread dispatching scope. Suspending the current thread is not
+/// allowed.
 pub fn pth_suspend<P: Program>()
     ensures { (s : State P P.State P.Shared) (t : ℕ) (n : ℤ) →
         Begins P.functions s t (call.Suspend n) (
@@ -76,7 +80,10 @@ pub fn pth_suspend<P: Program>()
         and enters (number n) ranked.Suspended (pos 0) false) then returns 1) }
 {}
 
-/// `pth_resume` puts a suspended thread back: it stands in q, the queue of its state, at rank 0. A thread that runs is never suspended.
+/// This function resumes a previously suspended thread `n`, i.e., `n` has to stay on the suspended queue. The thread is moved to the new,
+/// ready or waiting queue `q` (dependent on what its state was when the pth_suspend(3) call was made).
+///
+/// A running thread has no queue, and is never suspended: the statement `running` is there so that every state is covered.
 pub fn pth_resume<P: Program>()
     ensures suspended { (s : State P P.State P.Shared) (t : ℕ) (n : ℤ) (q : Queue) →
         queue_for (entry_of s (number n)).state ≡ Some q →
@@ -94,7 +101,9 @@ pub fn pth_resume<P: Program>()
         returns 1) }
 {}
 
-/// `pth_yield` gives up control, for 0 to the scheduler, and else to a thread that is new or ready.
+/// This explicitly yields back the execution control to the scheduler. Usually one specifies `n` as NULL (0) to indicate to the scheduler
+/// that it can freely decide which thread to dispatch next. If `n` is not NULL and points to a new or ready thread, it is guaranteed that
+/// this thread receives execution control on the next dispatching step. If `n` is in a different state, an error is reported (EINVAL).
 pub fn pth_yield<P: Program>()
     ensures { (s : State P P.State P.Shared) (t : ℕ) (n : ℤ) →
         Begins P.functions s t (call.Yield n) (
@@ -104,7 +113,8 @@ pub fn pth_yield<P: Program>()
         control_becomes (prefers (Some (number n))) then yields 1) }
 {}
 
-/// `pth_nap` suspends its thread for a length of time, in microseconds. It is a cancellation point.
+/// This function suspends the execution of the current thread until `l` is elapsed. It is only guaranteed that the thread will sleep at
+/// least `l`. Here `l` is in microseconds.
 pub fn pth_nap<P: Program>()
     ensures begins { (s : State P P.State P.Shared) (t : ℕ) (l : ℤ) →
         Begins P.functions s t (call.Nap l) (
@@ -113,12 +123,14 @@ pub fn pth_nap<P: Program>()
         waits_for (awaits.Moment (moment_after (now_of s.control) (length_of 1 l)))) }
     ensures goes_on { (s : State P P.State P.Shared) (t : ℕ) (l : ℤ) (at : ℕ) →
         GoesOn P.functions s t (call.Nap l) (awaits.Moment at) (
-        is_canceled P.functions when may_be_canceled s.control t otherwise
-        is_unblocked t then returns 1 when nat_le at (now_of s.control) otherwise
+        canceled P.functions when may_be_canceled s.control t otherwise
+        unblocks t then returns 1 when nat_le at (now_of s.control) otherwise
         waits_for (awaits.Moment at)) }
 {}
 
-/// `pth_wait` suspends its thread until an event of a ring has occurred or failed. It returns how many have. It is a cancellation point.
+/// One gives this function one or more events (in the event ring specified by `e`) on which the current thread wants to wait. The scheduler
+/// awakes the thread when one or more of them occurred or failed, after tagging them as such. It returns the number of occurred or failed
+/// events.
 pub fn pth_wait<P: Program>()
     ensures begins { (s : State P P.State P.Shared) (t : ℕ) (e : ℤ) →
         Begins P.functions s t (call.Wait e) (
@@ -127,14 +139,16 @@ pub fn pth_wait<P: Program>()
         control_becomes (claims t (Some e)) then waits_for (awaits.Ring e)) }
     ensures goes_on { (s : State P P.State P.Shared) (t : ℕ) (e : ℤ) →
         GoesOn P.functions s t (call.Wait e) (awaits.Ring e) (
-        is_canceled P.functions when may_be_canceled s.control t otherwise
-        is_unblocked t then returns (settled_in s.control.events (number e))
+        canceled P.functions when may_be_canceled s.control t otherwise
+        unblocks t then returns (settled_in s.control.events (number e))
         when nat_lt 0 (settled_in s.control.events (number e)) otherwise
         waits_for (awaits.Ring e)) }
 {}
 
-/// `pth_cancel` asks a thread to end. A thread that can be canceled asynchronously ends at once (`PTH_CANCEL_ASYNCHRONOUS`), and any other
-/// has the request from now on.
+/// This cancels a thread `n`. How the cancellation is done depends on the cancellation state of `n`. When its state is
+/// `PTH_CANCEL_DISABLE`, a cancellation request is just made pending. When it is `PTH_CANCEL_ENABLE` and `PTH_CANCEL_DEFERRED`, again the
+/// cancellation request is just made pending. But when it is `PTH_CANCEL_ASYNCHRONOUS`, the thread is immediately canceled before
+/// pth_cancel(3) returns. Here the main thread and a dead thread are refused (EPERM).
 pub fn pth_cancel<P: Program>()
     ensures { (s : State P P.State P.Shared) (t : ℕ) (n : ℤ) →
         Begins P.functions s t (call.Cancel n) (
@@ -146,8 +160,9 @@ pub fn pth_cancel<P: Program>()
         control_becomes (sets (number n) (change.Request true)) then returns 1) }
 {}
 
-/// `pth_abort` ends a thread at once, whatever its cancel state is: the thread is made detached and asynchronous, and is canceled. A dead
-/// thread is gone from the system.
+/// This is the cruel way to cancel a thread `n`. When it is already dead and waits to be joined, it just joins it and this way kicks it out
+/// of the system. Else it forces the thread to be not joinable and to allow asynchronous cancellation (cancel state 3), and then cancels it
+/// via pth_cancel(3). Here the main thread is refused (EPERM).
 pub fn pth_abort<P: Program>()
     ensures { (s : State P P.State P.Shared) (t : ℕ) (n : ℤ) →
         Begins P.functions s t (call.Abort n) (
@@ -156,53 +171,51 @@ pub fn pth_abort<P: Program>()
         refused EPERM when n is main otherwise
         control_becomes (removes (number n)) then returns 1
         when is_dead (thread_of s n).state otherwise
-        control_becomes (sets (number n) (change.Joinable false) and sets (number n) (change.Cancel 3)) then
+        control_becomes (sets (number n) (change.Joinable false)
+        and sets (number n) (change.Cancel 3)) then
         cancels P.functions (number n) before returns 1) }
 {}
 
-/// `pth_join` waits until a thread is dead, for 0 until any thread is that can be joined. It returns the thread's value, and the thread u
-/// that was joined is gone from the system. It is a cancellation point.
+/// This joins the current thread with the thread `n`. It first suspends the current thread until thread `n` has terminated. Then it is
+/// awakened, and returns the value of that thread's pth_exit(3) call. A thread can be joined only when it has the attribute
+/// `PTH_ATTR_JOINABLE` set to TRUE. A thread can only be joined once, i.e., after the pth_join(3) call it is completely removed from the
+/// system. Here 0 stands for any thread that can be joined, and `u` is the thread that is joined.
 pub fn pth_join<P: Program>()
     ensures waits { (s : State P P.State P.Shared) (t : ℕ) (n : ℤ) →
         to_join s.control n ≡ None →
         Begins P.functions s t (call.Join n) (
-        refused EDEADLK when n is t || (is_zero n && (present s.control == 1)) otherwise
-        refused ESRCH when not (is_zero n) && not (is_known s.control n) otherwise
-        refused EINVAL when not (is_zero n) && not (thread_of s n).joinable otherwise
+        refused EDEADLK when has_none_to_join s t n otherwise
+        refused ESRCH when joins_unknown s n otherwise
+        refused EINVAL when joins_detached s n otherwise
         waits_for (death_of n)) }
     ensures joins { (s : State P P.State P.Shared) (t : ℕ) (n : ℤ) (u : ℕ) →
         to_join s.control n ≡ Some u →
         Begins P.functions s t (call.Join n) (
-        refused EDEADLK when n is t || (is_zero n && (present s.control == 1)) otherwise
-        refused ESRCH when not (is_zero n) && not (is_known s.control n) otherwise
-        refused EINVAL when not (is_zero n) && not (thread_of s n).joinable otherwise
+        refused EDEADLK when has_none_to_join s t n otherwise
+        refused ESRCH when joins_unknown s n otherwise
+        refused EINVAL when joins_detached s n otherwise
         control_becomes (removes u) then answers (Int (entry_of s u).value)) }
-    ensures waits_on { (s : State P P.State P.Shared) (t : ℕ) (n : ℤ) →
+    ensures waits_longer { (s : State P P.State P.Shared) (t : ℕ) (n : ℤ) →
         to_join s.control n ≡ None →
         GoesOn P.functions s t (call.Join n) (death_of n) (
-        is_canceled P.functions when may_be_canceled s.control t otherwise
-        is_unblocked t then refused EDEADLK when n is t || (is_zero n
-        && (present s.control == 1)) otherwise
-        is_unblocked t then refused ESRCH when not (is_zero n)
-        && not (is_known s.control n) otherwise
-        is_unblocked t then refused EINVAL when not (is_zero n)
-        && not (thread_of s n).joinable otherwise
+        canceled P.functions when may_be_canceled s.control t otherwise
+        unblocks t then refused EDEADLK when has_none_to_join s t n otherwise
+        unblocks t then refused ESRCH when joins_unknown s n otherwise
+        unblocks t then refused EINVAL when joins_detached s n otherwise
         waits_for (death_of n)) }
-    ensures joins_at_last { (s : State P P.State P.Shared) (t : ℕ) (n : ℤ) (u : ℕ) →
+    ensures joins_later { (s : State P P.State P.Shared) (t : ℕ) (n : ℤ) (u : ℕ) →
         to_join s.control n ≡ Some u →
         GoesOn P.functions s t (call.Join n) (death_of n) (
-        is_canceled P.functions when may_be_canceled s.control t otherwise
-        is_unblocked t then refused EDEADLK when n is t || (is_zero n
-        && (present s.control == 1)) otherwise
-        is_unblocked t then refused ESRCH when not (is_zero n)
-        && not (is_known s.control n) otherwise
-        is_unblocked t then refused EINVAL when not (is_zero n)
-        && not (thread_of s n).joinable otherwise
-        control_becomes (removes u) then is_unblocked t then answers (Int (entry_of s u).value)) }
+        canceled P.functions when may_be_canceled s.control t otherwise
+        unblocks t then refused EDEADLK when has_none_to_join s t n otherwise
+        unblocks t then refused ESRCH when joins_unknown s n otherwise
+        unblocks t then refused EINVAL when joins_detached s n otherwise
+        control_becomes (removes u) then unblocks t then answers (Int (entry_of s u).value)) }
 {}
 
-/// `pth_exit` ends its thread with a value. The main thread waits until no other thread is new, ready, waiting or suspended. That wait is
-/// no cancellation point.
+/// This terminates the current thread. If it has the attribute `PTH_ATTR_JOINABLE` set to FALSE, it is immediately removed from the system
+/// and `v` is ignored. Else the thread is inserted into the dead queue and `v` is remembered for a subsequent pth_join(3) call by another
+/// thread. In the main thread this waits for all other threads to terminate. Here that wait is no cancellation point.
 pub fn pth_exit<P: Program>()
     ensures begins { (s : State P P.State P.Shared) (t : ℕ) (v : ℤ) →
         Begins P.functions s t (call.Exit v) (

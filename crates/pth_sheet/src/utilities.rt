@@ -1,4 +1,4 @@
-//! Utilities: `pth_fdmode`, `pth_timeout`.
+//! Utilities of pth(3): `pth_fdmode`, `pth_timeout`.
 
 ghost use Rattle.std.specs.Prelude.{ℕ, ℤ, not};
 ghost use Rattle.pth_base.specs.declared.call.Call.TheVariants as call;
@@ -12,7 +12,8 @@ ghost use Rattle.pth_sheet.specs.States.{kernel_becomes};
 
 use pth_base::program::Program;
 
-/// `pth_fdmode` sets whether a descriptor blocks (1) or not (2), and returns the mode until then. 0 only asks (`PTH_FDMODE_POLL`).
+/// This switches the non-blocking mode flag on file descriptor `f`. `m` can be `PTH_FDMODE_BLOCK` (1), `PTH_FDMODE_NONBLOCK` (2), or
+/// `PTH_FDMODE_POLL` (0) for just polling the current mode. The current mode is returned: that before the call.
 pub fn pth_fdmode<P: Program>()
     ensures { (s : State P P.State P.Shared) (t : ℕ) (f m : ℤ) →
         Begins P.functions s t (call.Fdmode f m) (
@@ -22,7 +23,7 @@ pub fn pth_fdmode<P: Program>()
         returns (s.control.kernel.descriptors (fd_named f)).mode) }
 {}
 
-/// `pth_timeout` returns the moment that lies a length of time after now, in microseconds.
+/// It returns the absolute time value calculated by adding `l` to the current time. Here times are in microseconds.
 pub fn pth_timeout<P: Program>()
     ensures { (s : State P P.State P.Shared) (t : ℕ) (l : ℤ) →
         Begins P.functions s t (call.Timeout l) (

@@ -14,17 +14,17 @@ unfolding begun row_of told answer_told
 returns-clause-no_object p c = λ s t a field g0.
     rw (g0) refl
 
-pub returns-clause-own_value : goal.returns-clause-own_value
+pub returns-clause-of_unbound_object : goal.returns-clause-of_unbound_object
 unfolding begun row_of told answer_told
-returns-clause-own_value p c = λ s t a field x g0.
+returns-clause-of_unbound_object p c = λ s t a field x g0.
     by_cases (is_of_thread field) (λ b0. rw (g0, b0) refl) (λ b0. by_cases (refuses (Says (answer_of (field_of_values field x)))) (λ b1. rw (g0, b0, b1) refl) (λ b1. rw (g0, b0, b1) refl))
 
-pub returns-clause-no_thread : goal.returns-clause-no_thread
+pub returns-clause-thread_is_gone : goal.returns-clause-thread_is_gone
 unfolding begun row_of told answer_told
-returns-clause-no_thread p c = λ s t a field u g0 g1.
+returns-clause-thread_is_gone p c = λ s t a field u g0 g1.
     rw (g0, g1) refl
 
-pub returns-clause-value_of_thread : goal.returns-clause-value_of_thread
+pub returns-clause-of_bound_object : goal.returns-clause-of_bound_object
 unfolding begun row_of told answer_told
-returns-clause-value_of_thread p c = λ s t a field u e g0 g1.
+returns-clause-of_bound_object p c = λ s t a field u e g0 g1.
     by_cases (is_of_thread field) (λ b0. by_cases (refuses (Says (answer_of (field_of_thread field e)))) (λ b1. rw (g0, g1, b0, b1) refl) (λ b1. rw (g0, g1, b0, b1) refl)) (λ b0. by_cases (refuses (Says (answer_of (field_of_thread field e)))) (λ b1. rw (g0, g1, b0, b1) refl) (λ b1. rw (g0, g1, b0, b1) refl))

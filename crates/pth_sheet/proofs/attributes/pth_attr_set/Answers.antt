@@ -11,17 +11,17 @@ unfolding begun row_of told answer_told
 returns-clause-no_object p c = λ s t a v g0.
     rw (g0) refl
 
-pub returns-clause-own_value : goal.returns-clause-own_value
+pub returns-clause-of_unbound_object : goal.returns-clause-of_unbound_object
 unfolding begun row_of told answer_told
-returns-clause-own_value p c = λ s t a v x g0.
+returns-clause-of_unbound_object p c = λ s t a v x g0.
     by_cases (is_fixed v) (λ b0. rw (g0, b0) refl) (λ b0. by_cases (is_in_range s.control.top v) (λ b1. rw (g0, b0, b1) refl) (λ b1. rw (g0, b0, b1) refl))
 
-pub returns-clause-no_thread : goal.returns-clause-no_thread
+pub returns-clause-thread_is_gone : goal.returns-clause-thread_is_gone
 unfolding begun row_of told answer_told
-returns-clause-no_thread p c = λ s t a v u g0 g1.
+returns-clause-thread_is_gone p c = λ s t a v u g0 g1.
     rw (g0, g1) refl
 
-pub returns-clause-value_of_thread : goal.returns-clause-value_of_thread
+pub returns-clause-of_bound_object : goal.returns-clause-of_bound_object
 unfolding begun row_of told answer_told
-returns-clause-value_of_thread p c = λ s t a v u e g0 g1.
+returns-clause-of_bound_object p c = λ s t a v u e g0 g1.
     by_cases (is_fixed v) (λ b0. rw (g0, g1, b0) refl) (λ b0. by_cases (is_in_range s.control.top v) (λ b1. rw (g0, g1, b0, b1) refl) (λ b1. rw (g0, g1, b0, b1) refl))

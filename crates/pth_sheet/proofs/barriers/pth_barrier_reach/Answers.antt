@@ -9,9 +9,9 @@ use Rattle.pth_sheet.specs.States.{entry_of}
 use Rattle.pth_sheet.proofs.Cases.{by_cases}
 use Rattle.pth_sheet.proofs.barriers.pth_barrier_reach.Goals as goal
 
-pub returns-clause-none : goal.returns-clause-none
+pub returns-clause-no_barrier : goal.returns-clause-no_barrier
 unfolding begun row_of told answer_told
-returns-clause-none p c = λ s t b g0.
+returns-clause-no_barrier p c = λ s t b g0.
     rw (g0) refl
 
 pub returns-clause-begins : goal.returns-clause-begins

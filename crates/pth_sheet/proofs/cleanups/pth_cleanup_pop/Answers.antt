@@ -6,9 +6,9 @@ use Rattle.pth_model.specs.Rows.{row_of}
 use Rattle.pth_sheet.proofs.Cases.{by_cases}
 use Rattle.pth_sheet.proofs.cleanups.pth_cleanup_pop.Goals as goal
 
-pub returns-clause-none : goal.returns-clause-none
+pub returns-clause-no_routine : goal.returns-clause-no_routine
 unfolding begun row_of told answer_told
-returns-clause-none p c = λ s t v g0.
+returns-clause-no_routine p c = λ s t v g0.
     rw (g0) refl
 
 pub returns-clause-popped : goal.returns-clause-popped

@@ -5,7 +5,7 @@ use Rattle.pth_model.specs.Cancellation.{may_be_canceled}
 use Rattle.pth_model.specs.Conditions.{can_take, is_noticed, leaves_seat, hands_on_seat}
 use Rattle.pth_model.specs.Resources.{told, answer_told}
 use Rattle.pth_model.specs.Rows.{row_of}
-use Rattle.pth_sheet.specs.States.{is_condition, is_no_ring_of, is_mutex, mutex_of, ring_is_in_use, has_event_come}
+use Rattle.pth_sheet.specs.States.{is_condition, is_no_ring_of, is_mutex, mutex_of, ring_is_in_use, has_event_settled}
 use Rattle.pth_sheet.proofs.Cases.{by_cases}
 use Rattle.pth_sheet.proofs.conditions.pth_cond_await.Goals as goal
 
@@ -19,11 +19,11 @@ unfolding gone_on tried_again row_of told answer_told leaves_seat hands_on_seat
 returns-clause-goes_on p c = λ s t c m e g0 here.
     by_cases (may_be_canceled s.control t) (λ b0. by_cases (can_take s t m) (λ b1. rw (here, b0, b1) refl) (λ b1. rw (here, b0, b1) refl))
     (λ b0. by_cases (is_noticed s t c) (λ b1. by_cases (can_take s t m) (λ b2. rw (here, b0, b1, b2, g0) refl) (λ b2. rw (here, b0, b1, b2) refl))
-    (λ b1. by_cases (has_event_come s e) (λ b2. by_cases (can_take s t m) (λ b3. rw (here, b0, b1, b2, b3, g0) refl) (λ b3. rw (here, b0, b1, b2, b3) refl)) (λ b2. rw (here, b0, b1, b2, g0) refl)))
+    (λ b1. by_cases (has_event_settled s e) (λ b2. by_cases (can_take s t m) (λ b3. rw (here, b0, b1, b2, b3, g0) refl) (λ b3. rw (here, b0, b1, b2, b3) refl)) (λ b2. rw (here, b0, b1, b2, g0) refl)))
 
-pub returns-clause-takes_mutex_back : goal.returns-clause-takes_mutex_back
+pub returns-clause-takes_mutex_back_notified : goal.returns-clause-takes_mutex_back_notified
 unfolding gone_on tried_again row_of told answer_told
-returns-clause-takes_mutex_back p c = λ s t c m e n g0 here.
+returns-clause-takes_mutex_back_notified p c = λ s t c m e n g0 here.
     by_cases (can_take s t m) (λ b0. rw (here, b0, g0) refl) (λ b0. rw (here, b0) refl)
 
 pub returns-clause-takes_mutex_back_interrupted : goal.returns-clause-takes_mutex_back_interrupted

@@ -7,9 +7,9 @@ use Rattle.pth_model.specs.Rows.{row_of}
 use Rattle.pth_sheet.proofs.Cases.{by_cases}
 use Rattle.pth_sheet.proofs.events.pth_event_chained.Goals as goal
 
-pub returns-clause-refused : goal.returns-clause-refused
+pub returns-clause-argument_refused : goal.returns-clause-argument_refused
 unfolding begun row_of told answer_told
-returns-clause-refused p c = λ s t e l g0.
+returns-clause-argument_refused p c = λ s t e l g0.
     rw (g0) refl
 
 pub returns-clause-made : goal.returns-clause-made

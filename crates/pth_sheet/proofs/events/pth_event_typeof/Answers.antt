@@ -4,9 +4,9 @@ use Rattle.pth_model.specs.Resources.{told, answer_told}
 use Rattle.pth_model.specs.Rows.{row_of}
 use Rattle.pth_sheet.proofs.events.pth_event_typeof.Goals as goal
 
-pub returns-clause-none : goal.returns-clause-none
+pub returns-clause-no_event : goal.returns-clause-no_event
 unfolding begun row_of told answer_told
-returns-clause-none p c = λ s t e g0.
+returns-clause-no_event p c = λ s t e g0.
     rw (g0) refl
 
 pub returns-clause-found : goal.returns-clause-found

@@ -12,7 +12,7 @@ unfolding begun row_of told answer_told
 returns-clause-found p c = λ s t e forward until x g0.
     by_cases (is_event s.control.events (number e)) (λ b0. rw (g0, b0) refl) (λ b0. rw (g0, b0) refl)
 
-pub returns-clause-none : goal.returns-clause-none
+pub returns-clause-none_occurred : goal.returns-clause-none_occurred
 unfolding begun row_of told answer_told
-returns-clause-none p c = λ s t e forward until g0.
+returns-clause-none_occurred p c = λ s t e forward until g0.
     by_cases (is_event s.control.events (number e)) (λ b0. rw (g0, b0) refl) (λ b0. rw (g0, b0) refl)

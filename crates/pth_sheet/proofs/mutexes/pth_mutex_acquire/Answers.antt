@@ -6,7 +6,7 @@ use Rattle.pth_model.specs.Cancellation.{may_be_canceled}
 use Rattle.pth_model.specs.Mutexes.{is_free}
 use Rattle.pth_model.specs.Resources.{told, answer_told}
 use Rattle.pth_model.specs.Rows.{row_of}
-use Rattle.pth_sheet.specs.States.{is_no_ring_of, is_mutex, mutex_of, ring_is_in_use, has_event_come}
+use Rattle.pth_sheet.specs.States.{is_no_ring_of, is_mutex, mutex_of, ring_is_in_use, has_event_settled}
 use Rattle.pth_sheet.proofs.Cases.{by_cases}
 use Rattle.pth_sheet.proofs.mutexes.pth_mutex_acquire.Goals as goal
 
@@ -18,4 +18,4 @@ returns-clause-begins p c = λ s t m v e.
 pub returns-clause-goes_on : goal.returns-clause-goes_on
 unfolding gone_on tried_again row_of told answer_told
 returns-clause-goes_on p c = λ s t m v e here.
-    by_cases (may_be_canceled s.control t) (λ b0. rw (here, b0, here) refl) (λ b0. by_cases (has_event_come s e) (λ b1. by_cases (is_free s m) (λ b2. rw (here, b0, here, b1, b2) refl) (λ b2. rw (here, b0, here, b1, b2) refl)) (λ b1. by_cases (is_free s m) (λ b2. rw (here, b0, here, b1, b2) refl) (λ b2. rw (here, b0, here, b1, b2) refl)))
+    by_cases (may_be_canceled s.control t) (λ b0. rw (here, b0, here) refl) (λ b0. by_cases (has_event_settled s e) (λ b1. by_cases (is_free s m) (λ b2. rw (here, b0, here, b1, b2) refl) (λ b2. rw (here, b0, here, b1, b2) refl)) (λ b1. by_cases (is_free s m) (λ b2. rw (here, b0, here, b1, b2) refl) (λ b2. rw (here, b0, here, b1, b2) refl)))

@@ -7,9 +7,9 @@ use Rattle.pth_model.specs.ThreadControl.{has_room}
 use Rattle.pth_sheet.proofs.Cases.{by_cases}
 use Rattle.pth_sheet.proofs.threads.pth_spawn.Goals as goal
 
-pub returns-clause-refused : goal.returns-clause-refused
+pub returns-clause-attributes_refused : goal.returns-clause-attributes_refused
 unfolding begun row_of told answer_told
-returns-clause-refused p c = λ s t b v a e g0.
+returns-clause-attributes_refused p c = λ s t b v a e g0.
     by_cases (is_below b (p.P.Program.functions s.control.program).bodies) (λ b0. rw (g0, b0) refl) (λ b0. rw (g0, b0) refl)
 
 pub returns-clause-made : goal.returns-clause-made

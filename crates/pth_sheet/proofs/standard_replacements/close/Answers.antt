@@ -4,7 +4,7 @@ use Rattle.pth_model.specs.Calls.{begun}
 use Rattle.pth_model.specs.Resources.{told, answer_told}
 use Rattle.pth_model.specs.Rows.{row_of}
 use Rattle.pth_sheet.proofs.Cases.{by_cases}
-use Rattle.pth_sheet.proofs.io.close.Goals as goal
+use Rattle.pth_sheet.proofs.standard_replacements.close.Goals as goal
 
 pub returns : goal.returns
 unfolding begun row_of told answer_told

@@ -6,7 +6,7 @@ use Rattle.pth_model.specs.Resources.{told, answer_told}
 use Rattle.pth_model.specs.RingWaits.{claims}
 use Rattle.pth_model.specs.Rows.{row_of}
 use Rattle.pth_sheet.proofs.Cases.{by_cases}
-use Rattle.pth_sheet.proofs.io.pth_accept.Goals as goal
+use Rattle.pth_sheet.proofs.standard_replacements.pth_connect.Goals as goal
 
 pub returns-clause-refused : goal.returns-clause-refused
 unfolding begun row_of told answer_told
@@ -23,17 +23,17 @@ unfolding begun row_of told answer_told claims
 returns-clause-waits p c = λ s t f g0.
     by_cases (is_nonblocking s.control.kernel (fd_named f)) (λ b0. rw (g0, b0) refl) (λ b0. rw (g0, b0) refl)
 
-pub returns-clause-refused_at_last : goal.returns-clause-refused_at_last
+pub returns-clause-refused_later : goal.returns-clause-refused_later
 unfolding gone_on tried_again row_of told answer_told
-returns-clause-refused_at_last p c = λ s t f z g0 here.
+returns-clause-refused_later p c = λ s t f z g0 here.
     by_cases (may_be_canceled s.control t) (λ b0. rw (here, b0, here) refl) (λ b0. rw (here, b0, here, g0) refl)
 
-pub returns-clause-answered_at_last : goal.returns-clause-answered_at_last
+pub returns-clause-answered_later : goal.returns-clause-answered_later
 unfolding gone_on tried_again row_of told answer_told
-returns-clause-answered_at_last p c = λ s t f n g0 here.
+returns-clause-answered_later p c = λ s t f n g0 here.
     by_cases (may_be_canceled s.control t) (λ b0. rw (here, b0, here) refl) (λ b0. rw (here, b0, here, g0) refl)
 
-pub returns-clause-waits_on : goal.returns-clause-waits_on
+pub returns-clause-waits_longer : goal.returns-clause-waits_longer
 unfolding gone_on tried_again row_of told answer_told
-returns-clause-waits_on p c = λ s t f g0 here.
+returns-clause-waits_longer p c = λ s t f g0 here.
     by_cases (may_be_canceled s.control t) (λ b0. rw (here, b0, here) refl) (λ b0. rw (here, b0, here, g0) refl)

@@ -8,7 +8,7 @@ use Rattle.pth_model.specs.Rows.{row_of}
 use Rattle.pth_model.specs.State.{now_of}
 use Rattle.pth_model.specs.Times.{is_negative}
 use Rattle.pth_sheet.proofs.Cases.{by_cases}
-use Rattle.pth_sheet.proofs.io.pth_sleep.Goals as goal
+use Rattle.pth_sheet.proofs.standard_replacements.pth_usleep.Goals as goal
 
 pub returns-clause-begins : goal.returns-clause-begins
 unfolding begun row_of told answer_told claims
