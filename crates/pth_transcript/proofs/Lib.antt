@@ -9,3 +9,13 @@ pub mod Scripted
 pub mod CallsBack
 pub mod OwnBack
 pub mod Passing
+pub mod NaturalsBack
+pub mod Partings
+pub mod WordBytes
+pub mod Counted
+pub mod AnswersBack
+pub mod ActsBack
+pub mod LinesBack
+pub mod EndingsBack
+pub mod MarksBack
+pub mod ToldBack

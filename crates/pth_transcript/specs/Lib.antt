@@ -5,3 +5,9 @@ pub mod Reading
 pub mod Threads
 pub mod Readable
 pub mod ReadBack
+pub mod Naturals
+pub mod MarkMeanings
+pub mod Parted
+pub mod ReadableAnswers
+pub mod AnswerMeanings
+pub mod ReadableMarks

@@ -1,8 +1,13 @@
 //! Answers, read.
 
-ghost use Rattle.std.specs.Prelude.{◌≡◌, ◌<◌, ℕ, List, All, Some, IfOk};
+ghost use Rattle.std.specs.Prelude.{◌≡◌, ◌<◌, ℕ, List, [], ◌∷◌, All, Some, IfOk, slice_index};
+ghost use Rattle.pth_base.specs.declared.answer.Answer.{Answer};
+ghost use Rattle.pth_base.specs.declared.answer.Answer.TheVariants as answer;
 ghost use Rattle.pth_text.specs.Hex.{hex_of};
+ghost use Rattle.pth_spelling.specs.Texts.{texts};
+ghost use Rattle.pth_spelling.specs.WordMeanings.{name_of};
 ghost use Rattle.pth_print.specs.WordTexts.{hex_word};
+ghost use Rattle.pth_transcript.specs.AnswerMeanings.{errno_of, refusal_of, message_of, sets_of, IsPlainAnswerBack, IsNameAnswerBack};
 
 use crate::number::natural;
 use pth_base::answer::Answer;
@@ -33,9 +38,21 @@ static ERRORS: [(&str, Errno); 13] = [
     ("ECONNREFUSED", Errno::ECONNREFUSED),
 ];
 
+/// The error of a name.
+#[tactic(auto, unfolding(crate::specs::AnswerMeanings::errno_of))]
+fn errno(word: &[u8]) -> Option<Errno>
+    ensures { result ≡ errno_of word.now }
+{
+    named(&ERRORS, word)
+}
+
 /// A call's refusal, by the error's name.
-fn refusal(word: &[u8]) -> Option<Answer> {
-    Some(Answer::Fail(named(&ERRORS, word)?))
+#[tactic(auto, unfolding(crate::specs::AnswerMeanings::refusal_of))]
+fn refusal(word: &[u8]) -> Option<Answer>
+    ensures { result ≡ refusal_of word.now }
+{
+    let e = errno(word)?;
+    Some(Answer::Fail(e))
 }
 
 /// The most digits that `read_hex` reads at once.
@@ -68,40 +85,78 @@ pub fn bytes(alloc: Global, word: &[u8]) -> Result<Option<Bytes>, OutOfMemory>
 }
 
 /// Bytes that were read.
-fn read_bytes(alloc: Global, word: &[u8]) -> Result<Option<Answer>, OutOfMemory> {
+fn read_bytes(alloc: Global, word: &[u8]) -> Result<Option<Answer>, OutOfMemory>
+    ensures { IfOk result
+        (λ found. (bs : List ℕ) → All (λ b. b < 256) bs → word.now ≡ hex_word bs
+        → found ≡ Some (answer.Bytes bs)) }
+{
     Ok(bytes(alloc, word)?.map(|bytes| Answer::Bytes(bytes)))
 }
 
-/// An answer of one word.
-fn one_word(alloc: Global, word: &[u8]) -> Result<Option<Answer>, OutOfMemory> {
-    match word {
-        [b'E', ..] => Ok(refusal(word)),
-        [b'h', ..] => read_bytes(alloc, word),
-        b"none" => Ok(Some(Answer::None)),
-        _ => Ok(read_number(word).map(|n| Answer::Int(n))),
+/// An answer of one word, by its first byte. A word that begins with `n` is taken for `none`.
+fn by_first(alloc: Global, first: u8, word: &[u8]) -> Result<Option<Answer>, OutOfMemory>
+    requires { first ≡ slice_index word.now 0 }
+    ensures { IfOk result (λ found. IsPlainAnswerBack (word.now ∷ []) found) }
+{
+    if first == b'E' {
+        return Ok(refusal(word));
     }
+    if first == b'h' {
+        return read_bytes(alloc, word);
+    }
+    if first == b'n' {
+        return Ok(Some(Answer::None));
+    }
+    Ok(read_number(word).map(|n| Answer::Int(n)))
+}
+
+/// The first byte of a word, 0 if there is none.
+fn first_byte(word: &[u8]) -> u8
+    ensures { result ≡ slice_index word.now 0 }
+{
+    if word.is_empty() { 0 } else { word[0] }
+}
+
+/// An answer of one word.
+fn one_word(alloc: Global, word: &[u8]) -> Result<Option<Answer>, OutOfMemory>
+    ensures { IfOk result (λ found. IsPlainAnswerBack (word.now ∷ []) found) }
+{
+    by_first(alloc, first_byte(word), word)
 }
 
 /// A message that was got.
-fn message(id: &[u8], value: &[u8]) -> Option<Answer> {
+#[tactic(auto, unfolding(crate::specs::AnswerMeanings::message_of))]
+fn message(id: &[u8], value: &[u8]) -> Option<Answer>
+    ensures { result ≡ message_of id.now value.now }
+{
+    let id = natural(id)?;
+    let Some(value) = read_number(value) else {
+        return None;
+    };
     Some(Answer::Msg {
-        id: MsgId(natural(id)?),
-        value: read_number(value)?,
+        id: MsgId(id),
+        value,
     })
 }
 
 /// How many descriptors are ready, and which.
-fn sets(count: &[u8], r: &[u8], w: &[u8], x: &[u8]) -> Option<Answer> {
-    Some(Answer::Sets {
-        count: read_number(count)?,
-        r: set(r)?,
-        w: set(w)?,
-        x: set(x)?,
-    })
+#[tactic(auto, unfolding(crate::specs::AnswerMeanings::sets_of))]
+fn sets(count: &[u8], r: &[u8], w: &[u8], x: &[u8]) -> Option<Answer>
+    ensures { result ≡ sets_of count.now r.now w.now x.now }
+{
+    let Some(count) = read_number(count) else {
+        return None;
+    };
+    let r = set(r)?;
+    let w = set(w)?;
+    let x = set(x)?;
+    Some(Answer::Sets { count, r, w, x })
 }
 
 /// An answer that is no text.
-pub fn plain_answer(alloc: Global, words: &[&[u8]]) -> Result<Option<Answer>, OutOfMemory> {
+pub fn plain_answer(alloc: Global, words: &[&[u8]]) -> Result<Option<Answer>, OutOfMemory>
+    ensures { IfOk result (λ found. IsPlainAnswerBack (texts words.now) found) }
+{
     match words {
         [word] => one_word(alloc, word),
         [_, id, _, value] => Ok(message(id, value)),
@@ -111,15 +166,22 @@ pub fn plain_answer(alloc: Global, words: &[&[u8]]) -> Result<Option<Answer>, Ou
 }
 
 /// A text of ASCII characters.
-fn text(word: &[u8]) -> Option<Answer> {
+fn text(word: &[u8]) -> Option<Answer>
+    ensures { name_of word.now ≡ Some word.now → result ≡ Some (answer.Text word.now) }
+{
+    if !word.is_ascii() {
+        return None;
+    }
     match str::from_utf8(word) {
-        Ok(text) if text.is_ascii() => Some(Answer::Text(Name::cut(text))),
-        _ => None,
+        Ok(text) => Some(Answer::Text(Name::cut(text))),
+        Err(_) => None,
     }
 }
 
 /// An answer that is a text or an error, as that of a call which asks for a name.
-pub fn name_answer(words: &[&[u8]]) -> Option<Answer> {
+pub fn name_answer(words: &[&[u8]]) -> Option<Answer>
+    ensures { IsNameAnswerBack (texts words.now) result }
+{
     match words {
         [word] => match refusal(word) {
             Some(answer) => Some(answer),

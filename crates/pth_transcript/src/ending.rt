@@ -1,6 +1,12 @@
 //! The last line of a transcript, read.
 
-ghost use Rattle.std.specs.Prelude.{◌≡◌, ◌++◌, IfOk, OnOk, IfSome, IsTrue, codes};
+ghost use Rattle.std.specs.Prelude.{◌≡◌, ◌++◌, ◌∷◌, List, All, IfOk, OnOk, IfSome, IsSomeAnd, IsTrue, codes, map};
+ghost use Rattle.pth_base.specs.declared.ids.Tid.{Tid};
+ghost use Rattle.pth_print.specs.WordTexts.{tid_word};
+ghost use Rattle.pth_spelling.specs.Texts.{texts};
+ghost use Rattle.pth_text.specs.LineWords.{words_of};
+ghost use Rattle.pth_transcript.specs.MarkMeanings.{ending_of};
+ghost use Rattle.pth_transcript.specs.ReadableMarks.{IsReadableTid, IsEndingBack, IsEndingLineBack};
 ghost use Rattle.pth_transcript.specs.Transcript.{ending_line};
 
 use crate::number::{natural, thread};
@@ -28,7 +34,12 @@ pub enum Ending {
 }
 
 /// Threads by their words.
-fn threads(alloc: Global, words: &[&[u8]]) -> Result<Option<Vec<Tid>>, OutOfMemory> {
+fn threads(alloc: Global, words: &[&[u8]]) -> Result<Option<Vec<Tid>>, OutOfMemory>
+    ensures { IfOk result
+        (λ found. (ts : List Tid) → All IsReadableTid ts
+        → texts words.now ≡ map tid_word (map (λ t. t.0) ts)
+        → IsSomeAnd found (λ live. live.items ≡ ts)) }
+{
     let mut live = Vec::new(alloc);
     for word in words {
         let Some(tid) = thread(word) else {
@@ -39,19 +50,51 @@ fn threads(alloc: Global, words: &[&[u8]]) -> Result<Option<Vec<Tid>>, OutOfMemo
     Ok(Some(live))
 }
 
-/// The ending that words tell.
-fn ending_by(alloc: Global, words: &[&[u8]]) -> Result<Option<Ending>, OutOfMemory> {
+/// A stall, by the threads that are not dead.
+fn stalled(alloc: Global, words: &[&[u8]]) -> Result<Option<Ending>, OutOfMemory>
+    ensures { IfOk result (λ found. IsEndingBack (codes "stalled" ∷ texts words.now) found) }
+{
+    let Some(live) = threads(alloc, words)? else {
+        return Ok(None);
+    };
+    Ok(Some(Ending::Stalled(live)))
+}
+
+/// An ending that is no stall.
+fn other(words: &[&[u8]]) -> Option<Ending>
+    ensures { result ≡ ending_of (texts words.now) }
+{
     match words {
-        [b"ended", v] => Ok(read_number(v).map(|v| Ending::Ended(v))),
-        [b"killed"] => Ok(Some(Ending::Killed)),
-        [b"stalled", live @ ..] => Ok(threads(alloc, live)?.map(|live| Ending::Stalled(live))),
-        [b"step", _, n] => Ok(natural(n).map(|n| Ending::StepLimit(n))),
-        _ => Ok(None),
+        [word] if *word == b"killed".as_slice() => Some(Ending::Killed),
+        [word, v] if *word == b"ended".as_slice() => {
+            let value = read_number(v)?;
+            Some(Ending::Ended(value))
+        }
+        [word, _, n] if *word == b"step".as_slice() => {
+            let steps = natural(n)?;
+            Some(Ending::StepLimit(steps))
+        }
+        _ => None,
     }
 }
 
+/// The ending that words tell.
+fn ending_by(alloc: Global, words: &[&[u8]]) -> Result<Option<Ending>, OutOfMemory>
+    ensures { IfOk result (λ found. IsEndingBack (texts words.now) found) }
+{
+    let [first, live @ ..] = words else {
+        return Ok(None);
+    };
+    if *first == b"stalled".as_slice() {
+        return stalled(alloc, live);
+    }
+    Ok(other(words))
+}
+
 /// The ending that a line tells, read loosely: it may be printed otherwise.
-fn read_loosely(alloc: Global, line: &[u8]) -> Result<Option<Ending>, OutOfMemory> {
+fn read_loosely(alloc: Global, line: &[u8]) -> Result<Option<Ending>, OutOfMemory>
+    ensures { IfOk result (λ found. IsEndingBack (words_of line.now) found) }
+{
     let words = words(alloc, line)?;
     ending_by(alloc, words.as_slice())
 }
@@ -70,7 +113,8 @@ fn add_ending(ending: &Ending, out: &mut Text) -> Result<(), OutOfMemory>
 
 /// Whether a line is printed so.
 fn is_printed(alloc: Global, ending: &Ending, line: &[u8]) -> Result<bool, OutOfMemory>
-    ensures { IfOk result (λ b. IsTrue b → line.now ++ codes "\n" ≡ ending_line ending.now) }
+    ensures spelled { IfOk result (λ b. IsTrue b → line.now ++ codes "\n" ≡ ending_line ending.now) }
+    ensures printed { IfOk result (λ b. line.now ++ codes "\n" ≡ ending_line ending.now → IsTrue b) }
 {
     let mut text = Text::new(alloc);
     add_ending(ending, &mut text)?;
@@ -80,6 +124,7 @@ fn is_printed(alloc: Global, ending: &Ending, line: &[u8]) -> Result<bool, OutOf
 /// The ending that a line tells, without its LF, and `None` if no ending is printed so.
 pub fn read_ending(alloc: Global, line: &[u8]) -> Result<Option<Ending>, OutOfMemory>
     ensures spelled { IfOk result (λ found. IfSome found (λ ending. line.now ++ codes "\n" ≡ ending_line ending)) }
+    ensures back { IfOk result (λ found. IsEndingLineBack line.now found) }
 {
     let Some(ending) = read_loosely(alloc, line)? else {
         return Ok(None);

@@ -1,7 +1,11 @@
 //! Lines of marks, read.
 
-ghost use Rattle.std.specs.Prelude.{◌≡◌, ◌++◌, IfOk, IfSome, IsTrue, codes};
+ghost use Rattle.std.specs.Prelude.{◌≡◌, ◌++◌, IfOk, IfSome, IsTrue, codes, option_map};
+ghost use Rattle.pth_spelling.specs.Texts.{texts};
+ghost use Rattle.pth_text.specs.LineWords.{words_of};
+ghost use Rattle.pth_transcript.specs.MarkMeanings.{told_plain};
 ghost use Rattle.pth_transcript.specs.Plain.{IsPlain};
+ghost use Rattle.pth_transcript.specs.ReadableMarks.{IsToldBack, IsLineBack};
 ghost use Rattle.pth_transcript.specs.Transcript.{told_line};
 
 use crate::plain::is_plain;
@@ -23,7 +27,9 @@ pub struct Told {
 }
 
 /// A mark whose line tells of no audit.
-fn unaudited(mark: Option<Mark>) -> Option<Told> {
+fn unaudited(mark: Option<Mark>) -> Option<Told>
+    ensures { result ≡ option_map told_plain mark }
+{
     Some(Told {
         mark: mark?,
         audit: false,
@@ -31,28 +37,53 @@ fn unaudited(mark: Option<Mark>) -> Option<Told> {
 }
 
 /// What the words of a line tell.
-fn told_by(alloc: Global, words: &[&[u8]]) -> Result<Option<Told>, OutOfMemory> {
-    match words {
-        [b"turn", words @ ..] => Ok(turn(words)),
-        [b"wake", words @ ..] => Ok(unaudited(woke(words))),
-        [b"idle", words @ ..] => Ok(unaudited(moved(words))),
-        _ => Ok(unaudited(thread_mark(alloc, words)?)),
+fn told_by(alloc: Global, words: &[&[u8]]) -> Result<Option<Told>, OutOfMemory>
+    ensures { IfOk result (λ found. IsToldBack (texts words.now) found) }
+{
+    let [first, rest @ ..] = words else {
+        return Ok(None);
+    };
+    if *first == b"turn".as_slice() {
+        return Ok(turn(rest));
     }
+    if *first == b"wake".as_slice() {
+        return Ok(unaudited(woke(rest)));
+    }
+    if *first == b"idle".as_slice() {
+        return Ok(unaudited(moved(rest)));
+    }
+    Ok(unaudited(thread_mark(alloc, words)?))
 }
 
 /// What a line tells, read loosely: it may be printed otherwise.
-fn read_loosely(alloc: Global, line: &[u8]) -> Result<Option<Told>, OutOfMemory> {
+fn read_loosely(alloc: Global, line: &[u8]) -> Result<Option<Told>, OutOfMemory>
+    ensures { IfOk result (λ found. IsToldBack (words_of line.now) found) }
+{
     let words = words(alloc, line)?;
     told_by(alloc, words.as_slice())
 }
 
 /// Whether a line is printed so.
 fn is_printed(alloc: Global, told: &Told, line: &[u8]) -> Result<bool, OutOfMemory>
-    ensures { IfOk result (λ b. IsTrue b → line.now ++ codes "\n" ≡ told_line told.now) }
+    ensures spelled { IfOk result (λ b. IsTrue b → line.now ++ codes "\n" ≡ told_line told.now) }
+    ensures printed { IfOk result (λ b. line.now ++ codes "\n" ≡ told_line told.now → IsTrue b) }
 {
     let mut text = Text::new(alloc);
     mark_line(&told.mark, told.audit, &mut text)?;
     Ok(is_line(text.as_slice(), line))
+}
+
+/// Whether a mark says no more than its line, and is printed so.
+fn is_told(alloc: Global, told: &Told, line: &[u8]) -> Result<bool, OutOfMemory>
+    ensures plain { IfOk result (λ b. IsTrue b → IsPlain told.now) }
+    ensures spelled { IfOk result (λ b. IsTrue b → line.now ++ codes "\n" ≡ told_line told.now) }
+    ensures holds { IfOk result
+        (λ b. IsPlain told.now → line.now ++ codes "\n" ≡ told_line told.now → IsTrue b) }
+{
+    if !is_plain(told.audit, &told.mark) {
+        return Ok(false);
+    }
+    is_printed(alloc, told, line)
 }
 
 /// The mark that a line tells, without its LF, and `None` if no mark of a script's run is printed so. If a dispatch does not tell
@@ -60,11 +91,12 @@ fn is_printed(alloc: Global, told: &Told, line: &[u8]) -> Result<bool, OutOfMemo
 pub fn read_line(alloc: Global, line: &[u8]) -> Result<Option<Told>, OutOfMemory>
     ensures spelled { IfOk result (λ found. IfSome found (λ told. line.now ++ codes "\n" ≡ told_line told)) }
     ensures plain { IfOk result (λ found. IfSome found IsPlain) }
+    ensures back { IfOk result (λ found. IsLineBack line.now found) }
 {
     let Some(told) = read_loosely(alloc, line)? else {
         return Ok(None);
     };
-    if is_plain(told.audit, &told.mark) && is_printed(alloc, &told, line)? {
+    if is_told(alloc, &told, line)? {
         Ok(Some(told))
     } else {
         Ok(None)
