@@ -1,15 +1,14 @@
 -- From what was read and judged so far to what comes of one line more.
-use Rattle.std.proofs.Common.{◌≡◌, ◌∙◌, ◌+◌, ℕ, List, [], ◌∷◌, ◌++◌, Bool, true, false, Option, Result, Ok, Err, IsErr, IsErrAnd, sym, ap, refl, subst, append_assoc, append-nil, inl, inr}
+use Rattle.std.proofs.Common.{◌≡◌, ◌∙◌, ◌+◌, ◌<◌, ◌^◌, ℕ, List, [], ◌∷◌, ◌++◌, Bool, true, false, Option, Result, Ok, Err, IsErr, IsErrAnd, sym, ap, refl, subst, append_assoc, append-nil, length, arith, inl, inr}
 use Rattle.std.proofs.lemmas.Grind.{flat_map-append}
 use Rattle.std.proofs.lemmas.List.{length_push}
 use Rattle.std.proofs.lemmas.List.Elements.{All-push}
-use Rattle.pth_transcript.specs.Plain.{IsPlain}
 use Rattle.pth_audit.specs.Verdicts.{BreaksFirst}
 use Rattle.pth_audit.specs.declared.verdict.AuditRule.{AuditRule}
 use Rattle.pth_base.specs.declared.mark.Mark.{Mark}
 use Rattle.pth_checker.specs.Fitting.{FitsEnding}
 use Rattle.pth_checker.specs.Session.{ComesTo, GoesOn, HasHeard, HasRead}
-use Rattle.pth_checker.specs.Judged.{BeginsLawfully, HoldsUpTo, HoldsVerdict}
+use Rattle.pth_checker.specs.Judged.{HoldsRefused, HoldsVerdict}
 use Rattle.pth_checker.specs.Judging.{Judges}
 use Rattle.pth_checker.specs.declared.session.Session.{Session}
 use Rattle.pth_checker.specs.declared.judge.Judge.{Judge}
@@ -17,9 +16,10 @@ use Rattle.pth_checker.specs.declared.verdict.Law.TheVariants as law
 use Rattle.pth_checker.specs.declared.verdict.Verdict.{Verdict}
 use Rattle.pth_checker.specs.declared.verdict.Verdict.TheVariants.{Lawful, Unlawful}
 use Rattle.pth_streams.specs.Inputs.{AreHeld}
-use Rattle.pth_transcript.specs.Reading.{ComesTo as ReaderComesTo, IsPlainPart, next_line, part_line}
+use Rattle.pth_transcript.specs.Reading.{ComesTo as ReaderComesTo, IsRefused}
+use Rattle.pth_transcript.specs.Transcripts.{BeginsNoLine, BeginsWith, IsTold, IsToldPart, next_line, part_line}
 use Rattle.pth_filter.specs.Objects.{OtherStays, of_read}
-use Rattle.pth_transcript.specs.Taking.{Ahead, IsOver, Takes, ahead}
+use Rattle.pth_transcript.specs.Taking.{Ahead, HasMore, IsOver, Takes, ahead}
 use Rattle.pth_transcript.specs.Transcript.{ending_line, marks_of, told_line, told_lines}
 use Rattle.pth_transcript.specs.declared.ending.Ending.{Ending}
 use Rattle.pth_print.specs.declared.fault_line.Fault.{Fault}
@@ -27,7 +27,8 @@ use Rattle.pth_print.specs.declared.fault_line.Fault.TheVariants as fault
 use Rattle.pth_transcript.specs.declared.reader.Part.{Part}
 use Rattle.pth_transcript.specs.declared.reader.Part.TheVariants as part
 use Rattle.pth_transcript.specs.declared.told.Told.{Told}
-use Rattle.pth_transcript.proofs.Takings.{front, takes_then, whole}
+use Rattle.pth_transcript.proofs.Refusals.{anything, more, refused}
+use Rattle.pth_transcript.proofs.Takings.{takes_then, whole}
 
 -- what a `?` answers
 pub err_is : {T E : Type 0} (r : Result T E) (e : E) → IsErr r → IsErrAnd r (λ x. x ≡ e) → r ≡ Err e
@@ -47,22 +48,23 @@ marks_more (t ∷ ts) last = ap (λ (ms : List Mark). t.mark ∷ ms) (marks_more
 
 -- one line more was read
 read_more : (content left later : Option (List ℕ)) (h after : Session) (told : List Told) (part : Part) → HasHeard content h left told
-    → Takes (ahead h.reader.unread left) (ahead after.reader.unread later) (part_line part) → after.reader.lines ≡ h.reader.lines + 1 → after.judge ≡ h.judge
-    → IsPlainPart part → HasRead content after later told part
-read_more content left later h after told part heard takes lines same plain = record {
+    → Takes (ahead h.reader.unread left) (ahead after.reader.unread later) (part_line part) → after.reader.lines ≡ h.reader.lines + 1 → after.reader.lines < 2 ^ 64
+    → after.judge ≡ h.judge → IsToldPart part → HasRead content after later told part
+read_more content left later h after told part heard takes lines few same tells = record {
   taken = takes_then (ahead [] content) (ahead h.reader.unread left) (ahead after.reader.unread later) (told_lines told) (part_line part) heard.taken takes;
-  plain = heard.plain;
-  part_plain = plain;
+  tells = heard.tells;
+  tells_part = tells;
   counted = lines ∙ ap (λ (n : ℕ). n + 1) heard.counted;
+  few = few;
   judges = subst (λ (j : Judge). Judges j (marks_of told)) (sym same) heard.judges;
 }
 
 -- the line that was read is that of this part
 pub read_as : (content left later : Option (List ℕ)) (h after : Session) (told : List Told) (found part : Part) → found ≡ part → HasHeard content h left told
-    → Takes (ahead h.reader.unread left) (ahead after.reader.unread later) (part_line found) → after.reader.lines ≡ h.reader.lines + 1 → after.judge ≡ h.judge
-    → IsPlainPart found → HasRead content after later told part
-read_as content left later h after told found part is heard takes lines same plain =
-    subst (HasRead content after later told) is (read_more content left later h after told found heard takes lines same plain)
+    → Takes (ahead h.reader.unread left) (ahead after.reader.unread later) (part_line found) → after.reader.lines ≡ h.reader.lines + 1 → after.reader.lines < 2 ^ 64
+    → after.judge ≡ h.judge → IsToldPart found → HasRead content after later told part
+read_as content left later h after told found part is heard takes lines few same tells =
+    subst (HasRead content after later told) is (read_more content left later h after told found heard takes lines few same tells)
 
 -- what is read is the same object as before
 pub read_of_same : (content input file : Option (List ℕ)) (h : Session) (told : List Told) (part : Part) (before now : Bool) → now ≡ before
@@ -79,57 +81,124 @@ pub heard_more : (content left : Option (List ℕ)) (h after : Session) (told : 
 heard_more content left h after told last read same judges = record {
   taken = subst (λ (u : List ℕ). Takes (ahead [] content) (ahead u left) (told_lines (told ++ last ∷ []))) (sym (ap (λ r. r.unread) same))
       (subst (Takes (ahead [] content) (ahead h.reader.unread left)) (sym (lines_more told last)) read.taken);
-  plain = All-push IsPlain told last read.plain read.part_plain;
+  tells = All-push IsTold told last read.tells read.tells_part;
   counted = ap (λ r. r.lines) same ∙ read.counted ∙ sym (length_push told last);
+  few = subst (λ (n : ℕ). n < 2 ^ 64) (sym (ap (λ r. r.lines) same)) read.few;
   judges = subst (Judges after.judge) (sym (marks_more told last)) judges;
 }
 
 -- ---- in the end
 
--- the content begins with what was read
-begins : (content left : Option (List ℕ)) (h : Session) (told : List Told) (part : Part) → HasRead content h left told part
-    → (bytes : List ℕ) × (rest : List ℕ) × AreHeld content bytes × BeginsLawfully bytes told (part_line part ++ rest)
-begins content left h told part read =
-    let f = front content (ahead h.reader.unread left) (told_lines told ++ part_line part) read.taken in
-    (f.0, f.1, f.2, record { text = f.3 ∙ append_assoc (told_lines told) (part_line part) f.1; plain = read.plain; lawful = read.judges.laws.lawful })
+-- the text begins with what was read
+with_part : (h : Session) (content left : Option (List ℕ)) (told : List Told) (part : Part) (bytes rest : List ℕ) → HasRead content h left told part
+    → bytes ≡ (told_lines told ++ part_line part) ++ rest → BeginsWith bytes told part rest
+with_part h content left told part bytes rest read is =
+    let many = read.counted in
+    let few = read.few in
+    record {
+      begins = record { text = is ∙ append_assoc (told_lines told) (part_line part) rest; tells = read.tells; few = omega (arith, many, few) };
+      tells = read.tells_part;
+      few = omega (arith, many, few);
+    }
 
 module _ (content left : Option (List ℕ)) (h : Session) (told : List Told) where
   pub breaks_law : (last : Told) (rule : AuditRule) (line : ℕ) → HasRead content h left told (part.Mark last) → line ≡ h.reader.lines
       → BreaksFirst rule (marks_of told ++ last.mark ∷ []) → HoldsVerdict content (Unlawful line (law.Marks rule))
-  breaks_law last rule line read here breaks =
-      let b = begins content left h told (part.Mark last) read in
-      (b.0, b.2, record { told = told; last = last; rest = b.1; begins = b.3; plain = read.part_plain; counted = here ∙ read.counted; breaks = breaks })
+  breaks_law last rule line read is breaks =
+      let b = anything content (ahead h.reader.unread left) (told_lines told ++ told_line last) read.taken in (
+        b.bytes,
+        b.held,
+        record {
+          told = told;
+          last = last;
+          rest = b.rest;
+          begins = with_part h content left told (part.Mark last) b.bytes b.rest read b.is;
+          counted = is ∙ read.counted;
+          lawful = read.judges.laws.lawful;
+          breaks = breaks;
+        },
+      )
 
   pub ends_unfittingly : (ending : Ending) (line : ℕ) → HasRead content h left told (part.Ending ending) → line ≡ h.reader.lines
       → (FitsEnding (marks_of told) ending → ⊥) → HoldsVerdict content (Unlawful line law.Ending)
-  ends_unfittingly ending line read here unfitting =
-      let b = begins content left h told (part.Ending ending) read in
-      (b.0, b.2, record { told = told; ending = ending; rest = b.1; begins = b.3; counted = here ∙ read.counted; unfitting = unfitting })
+  ends_unfittingly ending line read is unfitting =
+      let b = anything content (ahead h.reader.unread left) (told_lines told ++ ending_line ending) read.taken in (
+        b.bytes,
+        b.held,
+        record {
+          told = told;
+          ending = ending;
+          rest = b.rest;
+          begins = with_part h content left told (part.Ending ending) b.bytes b.rest read b.is;
+          counted = is ∙ read.counted;
+          lawful = read.judges.laws.lawful;
+          unfitting = unfitting;
+        },
+      )
 
   pub ends_lawfully : (ending : Ending) (lines : ℕ) (end : Ahead) → HasRead content h left told (part.Ending ending) → lines ≡ h.reader.lines
       → IsOver (ahead h.reader.unread left) end → FitsEnding (marks_of told) ending → HoldsVerdict content (Lawful lines)
-  ends_lawfully ending lines end read here over fits =
-      let w = whole content (ahead h.reader.unread left) end (told_lines told ++ ending_line ending) read.taken over in
-      (w.0, w.1, record { told = told; ending = ending; text = w.2; plain = read.plain; counted = here ∙ read.counted; lawful = read.judges.laws.lawful; fits = fits })
+  ends_lawfully ending lines end read is over fits =
+      let w = whole content (ahead h.reader.unread left) end (told_lines told ++ ending_line ending) read.taken over in (
+        w.0,
+        w.1,
+        record {
+          told = told;
+          ending = ending;
+          transcript = with_part h content left told (part.Ending ending) w.0 [] read (w.2 ∙ sym (append-nil (told_lines told ++ ending_line ending)));
+          counted = is ∙ read.counted;
+          lawful = read.judges.laws.lawful;
+          fits = fits;
+        },
+      )
 
-  pub goes_past_ending : (ending : Ending) (line : ℕ) → HasRead content h left told (part.Ending ending) → line ≡ next_line h.reader.lines
-      → FitsEnding (marks_of told) ending → HoldsUpTo content line
-  goes_past_ending ending line read here fits =
-      let b = begins content left h told (part.Ending ending) read in
-      (b.0, b.2, inr (record { told = told; ending = ending; rest = b.1; begins = b.3; counted = here ∙ ap next_line read.counted; fits = fits }))
+  pub goes_past_ending : (ending : Ending) (line : ℕ) (end : Ahead) → HasRead content h left told (part.Ending ending) → line ≡ next_line h.reader.lines
+      → HasMore (ahead h.reader.unread left) end → FitsEnding (marks_of told) ending → HoldsRefused content line
+  goes_past_ending ending line end read is goes_on fits =
+      let b = more content (ahead h.reader.unread left) end (told_lines told ++ ending_line ending) read.taken goes_on in (
+        b.bytes,
+        b.held,
+        inr (record {
+          told = told;
+          ending = ending;
+          goes_on = record {
+            rest = b.rest;
+            begins = with_part h content left told (part.Ending ending) b.bytes b.rest read b.is;
+            more = b.behind;
+            counted = is ∙ ap next_line read.counted;
+          };
+          lawful = read.judges.laws.lawful;
+          fits = fits;
+        }),
+      )
 
-  refused_at : (line : ℕ) → HasHeard content h left told → line ≡ next_line h.reader.lines → HoldsUpTo content line
-  refused_at line heard here =
-      let f = front content (ahead h.reader.unread left) (told_lines told) heard.taken in
-      (f.0, f.2, inl (record { told = told; rest = f.1; begins = record { text = f.3; plain = heard.plain; lawful = heard.judges.laws.lawful }; counted = here ∙ ap next_line heard.counted }))
+  refused_at : (line : ℕ) (end : Ahead) → HasHeard content h left told → line ≡ next_line h.reader.lines
+      → IsRefused h.reader.lines (ahead h.reader.unread left) end → HoldsRefused content line
+  refused_at line end heard is none =
+      let b = refused content (ahead h.reader.unread left) end (told_lines told) heard.taken (length told)
+      (subst (λ (n : ℕ). IsRefused n (ahead h.reader.unread left) end) heard.counted none) in (
+        b.bytes,
+        b.held,
+        inl (record {
+          told = told;
+          off = record {
+            rest = b.rest;
+            begins = record { text = b.is; tells = heard.tells; few = subst (λ (n : ℕ). n < 2 ^ 64) heard.counted heard.few };
+            off = b.behind;
+            counted = is ∙ ap next_line heard.counted;
+          };
+          lawful = heard.judges.laws.lawful;
+        }),
+      )
 
   -- the next line could not be read
-  pub not_read : (f : Fault) → HasHeard content h left told → ReaderComesTo h.reader.lines f → ComesTo content (Err f)
-  not_read (fault.Input line why) heard comes = (refused_at line heard comes.0, comes.1)
-  not_read fault.ReadFault heard comes = tt
-  not_read fault.OutOfMemory heard comes = tt
-  not_read fault.Words heard comes = comes
-  not_read fault.WriteFault heard comes = comes
+  pub not_read : (f : Fault) (end : Ahead) → HasHeard content h left told
+      → ReaderComesTo h.reader.lines (IsRefused h.reader.lines (ahead h.reader.unread left) end) f → ComesTo content (Err f)
+  not_read (fault.Input line why) end heard comes = (refused_at line end heard comes.0 comes.2, comes.1)
+  not_read fault.ReadFault end heard comes = tt
+  not_read fault.OutOfMemory end heard comes = tt
+  not_read fault.Words end heard comes = comes
+  not_read fault.WriteFault end heard comes = comes
 
 -- what comes of a line by whether there is a verdict
 pub goes_on_as : (content left : Option (List ℕ)) (h : Session) (found is : Option Verdict) → found ≡ is → GoesOn content h left (Ok found) → GoesOn content h left (Ok is)

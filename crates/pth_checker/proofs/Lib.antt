@@ -4,4 +4,5 @@ pub mod Parsed
 pub mod Heard
 pub mod Judging
 pub mod Opened
+pub mod OneOutput
 pub mod Running

@@ -1,6 +1,7 @@
 -- What was done, from the words, the verdict, and how its line was written.
 use Rattle.std.proofs.Common.{◌≡◌, ℕ, List, [], Option, Some, None, Ok, Err, ap, refl, inl, inr}
 use Rattle.std.proofs.KnownBytes.{Appends-nil}
+use Rattle.pth_checker.proofs.OneOutput.{only}
 use Rattle.pth_checker.specs.Check.{check, program, verdict_output}
 use Rattle.pth_checker.specs.Judged.{HoldsVerdict}
 use Rattle.pth_checker.specs.Session.{ComesTo}
@@ -28,7 +29,7 @@ none out = (Appends-nil out.written, refl)
 -- the words give no name
 pub unnamed : (asked : Option (Option (List ℕ))) (s : Scene) (f : Fault) → Names asked (Err f) → Ran check asked s s (Err f)
 unnamed (Some name) s fault.Words h = absurd (cc)
-unnamed None s fault.Words h = (tt, ([], refl, refl), none s.out)
+unnamed None s fault.Words h = (tt, ([], refl, only None [] (refusal program fault.Words) refl), none s.out)
 unnamed asked s (fault.Input line why) h = absurd h
 unnamed asked s fault.ReadFault h = absurd h
 unnamed asked s fault.WriteFault h = absurd h
@@ -47,15 +48,18 @@ module _ (name : Option (List ℕ)) (ins later : Inputs) (out after : Received) 
       → Ran check (Some name) (scene ins out) (scene later after) (Err f)
   unjudged fault.Words comes counts none = absurd comes
   unjudged (fault.Input line why) comes counts none =
-      let held = comes.0 in
-      (counts, (held.0, held.1, inr (line, held.2, ap (λ w. refusal program (fault.Input line w)) comes.1)), none)
+      let held = comes.0 in (
+        counts,
+        (held.0, held.1, only (Some name) held.0 (refusal program (fault.Input line why)) (inr (line, held.2, ap (λ w. refusal program (fault.Input line w)) comes.1))),
+        none,
+      )
   unjudged fault.ReadFault comes counts none = (counts, none)
   unjudged fault.WriteFault comes counts none = absurd comes
   unjudged fault.OutOfMemory comes counts none = (counts, inl none)
 
   module _ (verdict : Verdict) (holds : HoldsVerdict (content_under name ins) verdict) (stands : faults_under name later ≡ faults_under name ins) where
     is : HasOutput check (Some name) (scene ins out) (verdict_output verdict)
-    is = (holds.0, holds.1, inl (verdict, holds.2, refl))
+    is = (holds.0, holds.1, only (Some name) holds.0 (verdict_output verdict) (inl (verdict, holds.2, refl)))
 
     -- its line was written
     pub told : WritesPiece {T = Unit {0}} out after (verdict_line verdict) (Ok tt) → Ran check (Some name) (scene ins out) (scene later after) (Ok (verdict_status verdict))

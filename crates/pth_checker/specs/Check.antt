@@ -1,6 +1,6 @@
 -- What `pth_check` writes.
 use Rattle.std.specs.Prelude.{◌≡◌, ◌⊎◌, ℕ, List, Option, Some, None, codes}
-use Rattle.pth_checker.specs.Judged.{IsReadUpTo, IsVerdict}
+use Rattle.pth_checker.specs.Judged.{IsRefusedAt, IsVerdict}
 use Rattle.pth_checker.specs.VerdictLines.{verdict_line, verdict_status}
 use Rattle.pth_checker.specs.Words.{asked_by}
 use Rattle.pth_checker.specs.declared.verdict.Verdict.{Verdict}
@@ -18,11 +18,11 @@ program = codes "pth_check"
 abbrev pub verdict_output : Verdict → Output
 verdict_output verdict = record { text = verdict_line verdict; fault = None; status = verdict_status verdict }
 
--- the output of a text: that of a verdict that holds of it, or the refusal of a line before which nothing is wrong
+-- the output of a text: that of a verdict that holds of it, or the refusal of a line
 abbrev pub IsTextOutput : List ℕ → Output → Type 0
 IsTextOutput bytes out =
     ((verdict : Verdict) × IsVerdict bytes verdict × (out ≡ verdict_output verdict))
-    ⊎ ((line : ℕ) × IsReadUpTo bytes line × (out ≡ refusal program (fault.Input line NoTranscript)))
+    ⊎ ((line : ℕ) × IsRefusedAt bytes line × (out ≡ refusal program (fault.Input line NoTranscript)))
 
 -- the output for the name that the words give, if they are not refused, and the bytes that stand under it
 abbrev pub IsOutput : Option (Option (List ℕ)) → List ℕ → Output → Type 0

@@ -1,4 +1,4 @@
--- Which texts are lawful, which break a law, and how far a text is read before a line that is refused.
+-- Which texts are lawful, which break a law, and which are refused at a line.
 use Rattle.std.specs.Prelude.{◌≡◌, ◌⊎◌, ◌+◌, ℕ, List, [], ◌∷◌, ◌++◌, Option, length}
 use Rattle.pth_audit.specs.Verdicts.{BreaksFirst, IsLawful}
 use Rattle.pth_audit.specs.declared.verdict.AuditRule.{AuditRule}
@@ -8,20 +8,11 @@ use Rattle.pth_checker.specs.declared.verdict.Law.TheVariants as law
 use Rattle.pth_checker.specs.declared.verdict.Verdict.{Verdict}
 use Rattle.pth_checker.specs.declared.verdict.Verdict.TheVariants.{Lawful, Unlawful}
 use Rattle.pth_streams.specs.Inputs.{AreHeld}
-use Rattle.std.specs.List.{All}
-use Rattle.pth_transcript.specs.Plain.{IsPlain}
-use Rattle.pth_transcript.specs.Reading.{next_line}
-use Rattle.pth_transcript.specs.Transcript.{ending_line, marks_of, told_line, told_lines}
+use Rattle.pth_transcript.specs.Transcript.{marks_of}
+use Rattle.pth_transcript.specs.Transcripts.{BeginsWith, BreaksOff, GoesOn, IsTranscript}
 use Rattle.pth_transcript.specs.declared.ending.Ending.{Ending}
+use Rattle.pth_transcript.specs.declared.reader.Part.TheVariants as part
 use Rattle.pth_transcript.specs.declared.told.Told.{Told}
-
--- ---- the beginning of a text
-
--- the text begins with lines that tell all of lawful marks, and this is behind them
-pub record BeginsLawfully (bytes : List ℕ) (told : List Told) (rest : List ℕ) : Type 0 where
-  pub text : bytes ≡ told_lines told ++ rest
-  pub plain : All IsPlain told
-  pub lawful : IsLawful (marks_of told)
 
 -- ---- verdicts
 
@@ -29,8 +20,7 @@ pub record BeginsLawfully (bytes : List ℕ) (told : List Told) (rest : List ℕ
 pub record IsLawfulText (bytes : List ℕ) (n : ℕ) : Type 0 where
   pub told : List Told
   pub ending : Ending
-  pub text : bytes ≡ told_lines told ++ ending_line ending
-  pub plain : All IsPlain told
+  pub transcript : IsTranscript bytes told ending
   pub counted : n ≡ length told + 1
   pub lawful : IsLawful (marks_of told)
   pub fits : FitsEnding (marks_of told) ending
@@ -40,9 +30,9 @@ pub record BreaksLaw (bytes : List ℕ) (n : ℕ) (rule : AuditRule) : Type 0 wh
   pub told : List Told
   pub last : Told
   pub rest : List ℕ
-  pub begins : BeginsLawfully bytes told (told_line last ++ rest)
-  pub plain : IsPlain last
+  pub begins : BeginsWith bytes told (part.Mark last) rest
   pub counted : n ≡ length told + 1
+  pub lawful : IsLawful (marks_of told)
   pub breaks : BreaksFirst rule (marks_of told ++ last.mark ∷ [])
 
 -- line n is an ending that does not fit the marks before it, which are lawful
@@ -50,8 +40,9 @@ pub record EndsUnfittingly (bytes : List ℕ) (n : ℕ) : Type 0 where
   pub told : List Told
   pub ending : Ending
   pub rest : List ℕ
-  pub begins : BeginsLawfully bytes told (ending_line ending ++ rest)
+  pub begins : BeginsWith bytes told (part.Ending ending) rest
   pub counted : n ≡ length told + 1
+  pub lawful : IsLawful (marks_of told)
   pub unfitting : FitsEnding (marks_of told) ending → ⊥
 
 -- line n of the text is the first that breaks a law
@@ -66,25 +57,23 @@ IsVerdict bytes (Unlawful line law) = IsUnlawfulAt bytes line law
 
 -- ---- no transcript
 
--- the lines before line n tell of lawful marks
-pub record IsReadInMarks (bytes : List ℕ) (n : ℕ) : Type 0 where
+-- behind lawful marks line n of the text is none of a transcript
+pub record BreaksOffLawfully (bytes : List ℕ) (n : ℕ) : Type 0 where
   pub told : List Told
-  pub rest : List ℕ
-  pub begins : BeginsLawfully bytes told rest
-  pub counted : n ≡ next_line (length told)
+  pub off : BreaksOff bytes told n
+  pub lawful : IsLawful (marks_of told)
 
--- the lines before line n are those of a lawful transcript
-pub record IsReadToEnding (bytes : List ℕ) (n : ℕ) : Type 0 where
+-- the text goes on behind a lawful transcript, with line n
+pub record GoesOnLawfully (bytes : List ℕ) (n : ℕ) : Type 0 where
   pub told : List Told
   pub ending : Ending
-  pub rest : List ℕ
-  pub begins : BeginsLawfully bytes told (ending_line ending ++ rest)
-  pub counted : n ≡ next_line (length told + 1)
+  pub goes_on : GoesOn bytes told ending n
+  pub lawful : IsLawful (marks_of told)
   pub fits : FitsEnding (marks_of told) ending
 
--- nothing is wrong before line n
-abbrev pub IsReadUpTo : List ℕ → ℕ → Type 0
-IsReadUpTo bytes n = IsReadInMarks bytes n ⊎ IsReadToEnding bytes n
+-- no line before line n breaks a law, and line n is none of a transcript
+abbrev pub IsRefusedAt : List ℕ → ℕ → Type 0
+IsRefusedAt bytes n = BreaksOffLawfully bytes n ⊎ GoesOnLawfully bytes n
 
 -- ---- contents
 
@@ -92,6 +81,6 @@ IsReadUpTo bytes n = IsReadInMarks bytes n ⊎ IsReadToEnding bytes n
 abbrev pub HoldsVerdict : Option (List ℕ) → Verdict → Type 0
 HoldsVerdict content verdict = (bytes : List ℕ) × AreHeld content bytes × IsVerdict bytes verdict
 
--- nothing is wrong in the content before this line
-abbrev pub HoldsUpTo : Option (List ℕ) → ℕ → Type 0
-HoldsUpTo content line = (bytes : List ℕ) × AreHeld content bytes × IsReadUpTo bytes line
+-- the content is refused at this line
+abbrev pub HoldsRefused : Option (List ℕ) → ℕ → Type 0
+HoldsRefused content line = (bytes : List ℕ) × AreHeld content bytes × IsRefusedAt bytes line

@@ -1,13 +1,12 @@
 -- What was read and judged of a text.
 use Rattle.std.specs.Prelude.{◌≡◌, ◌+◌, ◌<◌, ◌^◌, ℕ, Bool, true, List, [], ◌++◌, Option, Some, None, Result, Ok, Err, length}
 use Rattle.pth_base.specs.declared.mark.Mark.{Mark}
-use Rattle.pth_checker.specs.Judged.{HoldsUpTo, HoldsVerdict}
+use Rattle.pth_checker.specs.Judged.{HoldsRefused, HoldsVerdict}
 use Rattle.pth_checker.specs.Judging.{Judges}
 use Rattle.pth_checker.specs.declared.session.Session.{Session}
 use Rattle.pth_checker.specs.declared.verdict.Verdict.{Verdict}
 use Rattle.std.specs.List.{All}
-use Rattle.pth_transcript.specs.Plain.{IsPlain}
-use Rattle.pth_transcript.specs.Reading.{IsPlainPart, part_line}
+use Rattle.pth_transcript.specs.Transcripts.{IsTold, IsToldPart, part_line}
 use Rattle.pth_filter.specs.Objects.{is_file}
 use Rattle.pth_transcript.specs.Taking.{IsStarted, Takes, ahead}
 use Rattle.pth_transcript.specs.Transcript.{marks_of, told_lines}
@@ -29,8 +28,9 @@ IsWhole (Some name) held left = is_file (Some name) ≡ true → left ≡ held n
 -- these lines were read from the front of the content, their marks are lawful, and this is left to read
 pub record HasHeard (content : Option (List ℕ)) (h : Session) (left : Option (List ℕ)) (told : List Told) : Type 0 where
   pub taken : Takes (ahead [] content) (ahead h.reader.unread left) (told_lines told)
-  pub plain : All IsPlain told
+  pub tells : All IsTold told
   pub counted : h.reader.lines ≡ length told
+  pub few : h.reader.lines < 2 ^ 64
   pub judges : Judges h.judge (marks_of told)
 
 -- the marks of all lines that were read were judged, but for so many lines
@@ -42,9 +42,10 @@ pub record HasJudged (h : Session) (unjudged : ℕ) : Type 0 where
 -- one line more was read, and is not judged yet
 pub record HasRead (content : Option (List ℕ)) (h : Session) (left : Option (List ℕ)) (told : List Told) (part : Part) : Type 0 where
   pub taken : Takes (ahead [] content) (ahead h.reader.unread left) (told_lines told ++ part_line part)
-  pub plain : All IsPlain told
-  pub part_plain : IsPlainPart part
+  pub tells : All IsTold told
+  pub tells_part : IsToldPart part
   pub counted : h.reader.lines ≡ length told + 1
+  pub few : h.reader.lines < 2 ^ 64
   pub judges : Judges h.judge (marks_of told)
 
 -- a session went on by one line of the same object, which is still started if it is a file
@@ -60,7 +61,7 @@ pub record Steps (before after : Session) (is_started : Bool) : Type 0 where
 -- what a content comes to if it is read and judged: a verdict, or a fault
 abbrev pub ComesTo : Option (List ℕ) → Result Verdict Fault → Type 0
 ComesTo content (Ok verdict) = HoldsVerdict content verdict
-ComesTo content (Err (fault.Input line why)) = HoldsUpTo content line × (why ≡ NoTranscript)
+ComesTo content (Err (fault.Input line why)) = HoldsRefused content line × (why ≡ NoTranscript)
 ComesTo content (Err fault.ReadFault) = Unit {0}
 ComesTo content (Err fault.OutOfMemory) = Unit {0}
 ComesTo content (Err fault.Words) = ⊥

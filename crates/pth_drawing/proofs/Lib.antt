@@ -13,6 +13,7 @@ pub mod Parsed
 pub mod PlacesOf
 pub mod Results
 pub mod RisingLanes
+pub mod OneOutput
 pub mod Running
 pub mod Standing
 pub mod Started

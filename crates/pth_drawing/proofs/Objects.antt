@@ -1,7 +1,7 @@
 -- The object that is read, and the other one.
 use Rattle.std.proofs.Common.{◌≡◌, ◌∙◌, ℕ, Bool, true, false, List, Option, refl, subst}
 use Rattle.pth_filter.specs.Objects.{OtherStays, of_read}
-use Rattle.pth_transcript.specs.Taking.{IsOver, Takes, ahead}
+use Rattle.pth_transcript.specs.Taking.{Ahead, ahead}
 
 -- nothing was called
 pub others_none : {S F : Type 0} (of_file : Bool) (input : S) (files : F) → OtherStays of_file input input files files
@@ -9,14 +9,10 @@ others_none true input files = refl
 others_none false input files = refl
 
 module _ (b o : Bool) (same : b ≡ o) where
-  -- what was taken of an object was taken of the same one
-  pub taken_of : (u v text : List ℕ) (x y z w : Option (List ℕ)) → Takes (ahead u (of_read b x y)) (ahead v (of_read b z w)) text
-      → Takes (ahead u (of_read o x y)) (ahead v (of_read o z w)) text
-  taken_of u v text x y z w h = subst (λ (b : Bool). Takes (ahead u (of_read b x y)) (ahead v (of_read b z w)) text) same h
-
-  pub over_of : (u v : List ℕ) (x y z w : Option (List ℕ)) → IsOver (ahead u (of_read b x y)) (ahead v (of_read b z w))
-      → IsOver (ahead u (of_read o x y)) (ahead v (of_read o z w))
-  over_of u v x y z w h = subst (λ (b : Bool). IsOver (ahead u (of_read b x y)) (ahead v (of_read b z w))) same h
+  -- what is known of an object before and after is known of the same one
+  pub of_same : (P : Ahead → Ahead → Type 0) (u v : List ℕ) (x y z w : Option (List ℕ)) → P (ahead u (of_read b x y)) (ahead v (of_read b z w))
+      → P (ahead u (of_read o x y)) (ahead v (of_read o z w))
+  of_same P u v x y z w h = subst (λ (b : Bool). P (ahead u (of_read b x y)) (ahead v (of_read b z w))) same h
 
   -- its count stands still
   pub stood_of : (x y z w i j : ℕ) → of_read b z w ≡ of_read b x y → of_read o x y ≡ of_read o i j → of_read o z w ≡ of_read o i j

@@ -14,3 +14,8 @@ pub not_made : {T : Type 0} (Is : List Mark → T → Type 0) (content : Option 
     → StopsAt content f → Makes Is content r
 not_made Is content (Ok x) f h stops = absurd h
 not_made Is content (Err y) f h stops = subst (StopsAt content) (sym h) stops
+
+-- a `?` answers the error that it met
+pub answers_error : {T E : Type 0} (P : Result T E → Type 0) (r : Result T E) (e : E) → IsErrAnd r (λ y. y ≡ e) → P (Err e) → P r
+answers_error P (Ok x) e h p = absurd h
+answers_error {T} {E} P (Err y) e h p = subst (λ (z : E). P (Err z)) (sym h) p

@@ -3,6 +3,7 @@ use Rattle.std.proofs.Common.{◌≡◌, ℕ, List, [], Option, Some, None, Ok, 
 use Rattle.std.specs.Io.KnownBytes.{Appends}
 use Rattle.std.proofs.KnownBytes.{Appends-nil}
 use Rattle.pth_base.specs.declared.mark.Mark.{Mark}
+use Rattle.pth_drawing.proofs.OneOutput.{only}
 use Rattle.pth_drawing.specs.Draw.{IsMade, StopsAt, draw, picture, picture_output, program}
 use Rattle.pth_drawing.specs.Words.{Asked, Chooses}
 use Rattle.pth_filter.specs.Answers.{HasOutput, Ran}
@@ -27,7 +28,7 @@ none out = (Appends-nil out.written, refl)
 -- the words are refused, or memory ran out for them
 pub unasked : (asked : Option Asked) (s : Scene) (f : Fault) → Chooses asked (Err f) → Ran draw asked s s (Err f)
 unasked (Some asked) s fault.Words h = absurd (cc)
-unasked None s fault.Words h = (tt, ([], refl, refl), none s.out)
+unasked None s fault.Words h = (tt, ([], refl, only None [] (refusal program fault.Words) refl), none s.out)
 unasked asked s (fault.Input line why) h = absurd h
 unasked asked s fault.ReadFault h = absurd h
 unasked asked s fault.WriteFault h = absurd h
@@ -41,8 +42,11 @@ module _ (asked : Asked) (ins later : Inputs) (out after : Received) where
       → Ran draw (Some asked) (scene ins out) (scene later after) (Err f)
   undrawn fault.Words stops counts none = absurd stops
   undrawn (fault.Input line why) stops counts none =
-      let at = stops.0 in
-      (counts, (at.bytes, at.held, inr (line, at.goes_on, ap (λ w. refusal program (fault.Input line w)) stops.1)), none)
+      let at = stops.0 in (
+        counts,
+        (at.bytes, at.held, only (Some asked) at.bytes (refusal program (fault.Input line why)) (inr (line, at.refused, ap (λ w. refusal program (fault.Input line w)) stops.1))),
+        none,
+      )
   undrawn fault.ReadFault stops counts none = (counts, none)
   undrawn fault.WriteFault stops counts none = absurd stops
   undrawn fault.OutOfMemory stops counts none = (counts, inl none)
@@ -50,7 +54,7 @@ module _ (asked : Asked) (ins later : Inputs) (out after : Received) where
   module _ (text : List ℕ) (made : IsMade (λ (marks : List Mark) (t : List ℕ). t ≡ picture asked.from asked.turns marks) (content_under asked.file ins) text)
       (stands : faults_under asked.file later ≡ faults_under asked.file ins) where
     is : HasOutput draw (Some asked) (scene ins out) (picture_output text)
-    is = (made.bytes, made.held, inl (made.told, made.transcript, ap picture_output made.made))
+    is = (made.bytes, made.held, only (Some asked) made.bytes (picture_output text) (inl (made.told, made.ending, made.transcript, ap picture_output made.made)))
 
     -- it was written
     pub drawn : Appends out.written after.written text → CountsSink {T = Unit {0}} out.faults after.faults (Ok tt)

@@ -1,6 +1,5 @@
 -- What `pth_picture` writes.
-use Rattle.std.specs.Prelude.{◌≡◌, ◌⊎◌, ◌++◌, ◌+◌, ℕ, List, length, Option, Some, None, Result, Ok, Err, codes}
-use Rattle.std.specs.List.{All}
+use Rattle.std.specs.Prelude.{◌≡◌, ◌⊎◌, ℕ, List, Option, Some, None, Result, Ok, Err, codes}
 use Rattle.pth_base.specs.declared.mark.Mark.{Mark}
 use Rattle.pth_filter.specs.Filter.{Filter}
 use Rattle.pth_filter.specs.Objects.{named}
@@ -9,9 +8,8 @@ use Rattle.pth_print.specs.declared.fault_line.Fault.{Fault}
 use Rattle.pth_print.specs.declared.fault_line.Fault.TheVariants as fault
 use Rattle.pth_print.specs.declared.fault_line.Flaw.TheVariants.{NoTranscript}
 use Rattle.pth_streams.specs.Inputs.{AreHeld}
-use Rattle.pth_transcript.specs.Plain.{IsPlain}
-use Rattle.pth_transcript.specs.Reading.{next_line}
-use Rattle.pth_transcript.specs.Transcript.{ending_line, marks_of, told_lines}
+use Rattle.pth_transcript.specs.Transcript.{marks_of}
+use Rattle.pth_transcript.specs.Transcripts.{BreaksOff, GoesOn, IsTranscript}
 use Rattle.pth_transcript.specs.declared.ending.Ending.{Ending}
 use Rattle.pth_transcript.specs.declared.told.Told.{Told}
 use Rattle.pth_drawing.specs.Drawing.{chart}
@@ -24,50 +22,30 @@ picture from turns marks = picture_of (chart from turns marks)
 
 -- ---- the transcript
 
--- a text is the lines of these marks, which tell all of them, and the line of an ending
-pub record IsTranscript (bytes : List ℕ) (told : List Told) : Type 0 where
-  pub ending : Ending
-  pub plain : All IsPlain told
-  pub whole : bytes ≡ told_lines told ++ ending_line ending
-
--- a text begins with the lines of marks, and the one after them has this number
-pub record GoesOnInMarks (bytes : List ℕ) (line : ℕ) : Type 0 where
-  pub told : List Told
-  pub rest : List ℕ
-  pub plain : All IsPlain told
-  pub whole : bytes ≡ told_lines told ++ rest
-  pub number : line ≡ next_line (length told)
-
--- a text begins with a whole transcript, and the line after it has this number
-pub record GoesOnBehindEnding (bytes : List ℕ) (line : ℕ) : Type 0 where
-  pub told : List Told
-  pub ending : Ending
-  pub rest : List ℕ
-  pub plain : All IsPlain told
-  pub whole : bytes ≡ (told_lines told ++ ending_line ending) ++ rest
-  pub number : line ≡ next_line (length told + 1)
-
--- the lines before the one with this number are those of a transcript; of this one nothing is said
-abbrev pub GoesOnAt : (bytes : List ℕ) → (line : ℕ) → Type 0
-GoesOnAt bytes line = GoesOnInMarks bytes line ⊎ GoesOnBehindEnding bytes line
+-- line n of a text is none of a transcript, or stands behind an ending
+abbrev pub IsRefusedAt : List ℕ → ℕ → Type 0
+IsRefusedAt bytes n =
+    ((told : List Told) × BreaksOff bytes told n)
+    ⊎ ((told : List Told) × (ending : Ending) × GoesOn bytes told ending n)
 
 -- a content is a transcript, and this was made of its marks
 pub record IsMade {T : Type 0} (Is : List Mark → T → Type 0) (content : Option (List ℕ)) (x : T) : Type 0 where
   pub bytes : List ℕ
   pub held : AreHeld content bytes
   pub told : List Told
-  pub transcript : IsTranscript bytes told
+  pub ending : Ending
+  pub transcript : IsTranscript bytes told ending
   pub made : Is (marks_of told) x
 
--- a content goes on after the lines of a transcript, and the next line has this number
-pub record BreaksOff (content : Option (List ℕ)) (line : ℕ) : Type 0 where
+-- a content is refused at this line
+pub record HoldsRefused (content : Option (List ℕ)) (line : ℕ) : Type 0 where
   pub bytes : List ℕ
   pub held : AreHeld content bytes
-  pub goes_on : GoesOnAt bytes line
+  pub refused : IsRefusedAt bytes line
 
 -- why nothing was made of a content
 abbrev pub StopsAt : Option (List ℕ) → Fault → Type 0
-StopsAt content (fault.Input line why) = BreaksOff content line × (why ≡ NoTranscript)
+StopsAt content (fault.Input line why) = HoldsRefused content line × (why ≡ NoTranscript)
 StopsAt content fault.ReadFault = Unit {0}
 StopsAt content fault.OutOfMemory = Unit {0}
 StopsAt content fault.Words = ⊥
@@ -88,11 +66,12 @@ program = codes "pth_picture"
 abbrev pub picture_output : List ℕ → Output
 picture_output text = record { text = text; fault = None; status = 0 }
 
--- the output of a text: the picture of the run that it tells, or the refusal of a line before which all lines are those of a transcript
+-- the output of a text: the picture of the run that it tells, or the refusal of a line
 abbrev pub IsTextOutput : Asked → List ℕ → Output → Type 0
 IsTextOutput asked bytes out =
-    ((told : List Told) × IsTranscript bytes told × (out ≡ picture_output (picture asked.from asked.turns (marks_of told))))
-    ⊎ ((line : ℕ) × GoesOnAt bytes line × (out ≡ refusal program (fault.Input line NoTranscript)))
+    ((told : List Told) × (ending : Ending) × IsTranscript bytes told ending
+    × (out ≡ picture_output (picture asked.from asked.turns (marks_of told))))
+    ⊎ ((line : ℕ) × IsRefusedAt bytes line × (out ≡ refusal program (fault.Input line NoTranscript)))
 
 -- the output for what the words ask for, if they are not refused, and the bytes that stand under the name that they give
 abbrev pub IsOutput : Option Asked → List ℕ → Output → Type 0

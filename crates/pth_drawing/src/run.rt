@@ -7,7 +7,7 @@ ghost use Rattle.pth_streams.specs.Scene.{scene};
 ghost use Rattle.pth_transcript.specs.Reading.{ComesTo, CountsFault};
 ghost use Rattle.pth_filter.specs.Answers.{Ran, object_for};
 ghost use Rattle.pth_filter.specs.Objects.{OtherStays, OthersUntouched, content_under, faults_under, is_file, of_read};
-ghost use Rattle.pth_transcript.specs.Taking.{IsOver, IsStarted, ahead};
+ghost use Rattle.pth_transcript.specs.Taking.{HasMore, IsOver, IsStarted, ahead};
 ghost use Rattle.pth_drawing.specs.Bounds.{most_columns};
 ghost use Rattle.pth_drawing.specs.Charts.{chart_seen};
 ghost use Rattle.pth_drawing.specs.Draw.{Makes, StopsAt, draw, picture};
@@ -74,7 +74,9 @@ fn expect_end<S: Source, F: Files>(
     ensures over { IfOk result (λ _. IsOver
         (ahead reader.old.unread (of_read reader.old.of_file (S.left input.old) (F.left files.old)))
         (ahead reader.new.unread (of_read reader.old.of_file (S.left input.new) (F.left files.new)))) }
-    ensures fault { IfErr result (ComesTo reader.old.lines) }
+    ensures fault { IfErr result (ComesTo reader.old.lines (HasMore
+        (ahead reader.old.unread (of_read reader.old.of_file (S.left input.old) (F.left files.old)))
+        (ahead reader.new.unread (of_read reader.old.of_file (S.left input.new) (F.left files.new))))) }
     ensures counts { CountsFault
         (of_read reader.old.of_file (S.faults input.old) (F.faults files.old))
         (of_read reader.old.of_file (S.faults input.new) (F.faults files.new)) result }

@@ -8,7 +8,7 @@ use Rattle.pth_streams.specs.Scene.{Scene}
 use Rattle.pth_filter.specs.Faults.{Reports}
 use Rattle.pth_filter.specs.Filter.{Filter}
 use Rattle.pth_filter.specs.Objects.{Object, Rises, Stands, content_of, nothing}
-use Rattle.pth_filter.specs.Output.{Output, refusal}
+use Rattle.pth_filter.specs.Output.{IsOnly, Output, refusal}
 use Rattle.pth_print.specs.FaultLines.{fault_line}
 use Rattle.pth_print.specs.declared.fault_line.Fault.{Fault}
 use Rattle.pth_print.specs.declared.fault_line.Fault.TheVariants as fault
@@ -34,10 +34,11 @@ module _ {A : Type 0} (filter : Filter A) (asked : Option A) where
   abbrev object : Object
   object = object_for filter asked
 
-  -- this is an output for the bytes that the object holds
+  -- this is the only output for the bytes that the object holds
   abbrev pub HasOutput : Scene → Output → Type 0
   HasOutput old out =
-      (bytes : List ℕ) × AreHeld (content_of object old.ins) bytes × filter.IsOutput asked bytes out
+      (bytes : List ℕ) × AreHeld (content_of object old.ins) bytes
+      × IsOnly (filter.IsOutput asked bytes) out
 
   -- the output is a refusal: of the words, or of a line of the object
   abbrev pub HasRefusal : Scene → Fault → Type 0

@@ -8,7 +8,7 @@ use Rattle.pth_model.specs.State.{Given}
 use Rattle.pth_model.specs.Course.{Course}
 use Rattle.pth_model.specs.Run.{run, GoesTo}
 use Rattle.pth_filter.specs.Filter.{Filter}
-use Rattle.pth_filter.specs.Output.{Output, refusal}
+use Rattle.pth_filter.specs.Output.{IsOnly, Output, refusal}
 use Rattle.pth_print.specs.declared.fault_line.Fault.TheVariants as fault
 use Rattle.pth_print.specs.declared.fault_line.Flaw.TheVariants.{Breaks}
 use Rattle.pth_line.specs.Script.{Sections, functions_of}
@@ -82,8 +82,8 @@ IsOutput (Some asked) bytes out = IsInputOutput asked (cut bytes) out
 
 -- and there is no other
 abbrev pub IsTheOutput : Option Asked → List ℕ → Output → Type 0
-IsTheOutput asked bytes out = IsOutput asked bytes out × ((other : Output) → IsOutput asked bytes other → other ≡ out)
+IsTheOutput asked bytes out = IsOnly (IsOutput asked bytes) out
 
 -- the program
 abbrev pub play : Filter Asked
-play = record { name = program; asked = asked_by; object = λ asked. object_of asked.generate asked.file; IsOutput = IsTheOutput }
+play = record { name = program; asked = asked_by; object = λ asked. object_of asked.generate asked.file; IsOutput = IsOutput }

@@ -1,29 +1,19 @@
--- What is printed of an act is read back, and which calls ask for a name.
-use Rattle.std.proofs.Common.{◌≡◌, ◌∙◌, ◌<◌, ◌^◌, ◌≤◌, ℕ, ℤ, Bool, true, false, List, [], ◌∷◌, ◌++◌, length, get_or, codes, Option, Some, None, Result, Ok, Err, w64, FitsSigned, refl, sym, ap, subst, arith}
+-- What is printed of an act, and of the answer to a call, is read back.
+use Rattle.std.proofs.Common.{◌≡◌, ◌∙◌, ◌<◌, ◌^◌, ℕ, ℤ, Bool, true, false, List, [], ◌∷◌, ◌++◌, codes, Option, Some, None, Result, Ok, Err, w64, FitsSigned, refl, sym, ap, subst, arith}
 use Rattle.std.specs.Prelude.{option_map, IfOk}
 use Rattle.pth_base.specs.declared.act.Act.{Act}
 use Rattle.pth_base.specs.declared.act.Act.TheVariants as act
 use Rattle.pth_base.specs.declared.answer.Answer.{Answer}
 use Rattle.pth_base.specs.declared.answer.Answer.TheVariants as answer
-use Rattle.pth_base.specs.declared.attr.AttrField.TheVariants as field
-use Rattle.pth_base.specs.declared.attr.AttrValue.TheVariants as value
 use Rattle.pth_base.specs.declared.call.Call.{Call}
-use Rattle.pth_base.specs.declared.call.Call.TheVariants as call
-use Rattle.pth_base.specs.declared.event.EvLine.TheVariants as ring
-use Rattle.pth_base.specs.declared.query.Query.TheVariants as query
-use denote.Ref.{Bor}
 use Rattle.pth_text.proofs.Numbers.{written_number_is_read}
-use Rattle.pth_spelling.specs.Texts.{texts}
 use Rattle.pth_print.specs.AnswerWords.{answer_words}
-use Rattle.pth_print.specs.CallWords.{call_words}
 use Rattle.pth_print.specs.MarkLines.{acted_words}
 use Rattle.pth_print.specs.WordTexts.{number_word, cell}
-use Rattle.pth_transcript.specs.AnswerMeanings.{numbers_of, release_of, pair_of, calling_of, unanswered, note_of, set_act_of, silent_of, ask_name, IsPlainAnswerBack, IsNameAnswerBack, IsAnswerBack, IsActedBack}
+use Rattle.pth_transcript.specs.AnswerMeanings.{numbers_of, release_of, pair_of, calling_of, unanswered, note_of, set_act_of, silent_of, IsPlainAnswerBack, IsNameAnswerBack, IsAnswerBack, IsActedBack}
 use Rattle.pth_transcript.specs.Parted.{is_equals, parted}
-use Rattle.pth_transcript.specs.Plain.{asks_name}
-use Rattle.pth_transcript.specs.ReadableAnswers.{IsReadablePlainAnswer, IsReadableBehind, IsReadableAct}
+use Rattle.pth_transcript.specs.ReadableAnswers.{asks_name, IsReadablePlainAnswer, IsReadableBehind, IsReadableAct}
 use Rattle.pth_transcript.specs.declared.act.Acted.{Acted}
-use Rattle.pth_transcript.proofs.Counted.{three_texts}
 use Rattle.pth_transcript.proofs.NaturalsBack.{cell_back}
 use Rattle.pth_transcript.proofs.Partings.{HasNoEquals, parted_behind, not_parted, same_pair, no_pair}
 use Rattle.pth_transcript.proofs.WordBytes.{other_than_equals, number_is_word}
@@ -126,45 +116,17 @@ acted_whole ws x a (Silent none made) found e = ap silent_of e ∙ made
 
 -- ---- calls that ask for a name
 
--- their words tell
-pub asked : (c : Call) → ask_name (call_words c) ≡ asks_name c
-asked (call.Ctrl (query.Name t)) = refl
-asked (call.AttrGet a field.Name) = refl
-asked (call.AttrSet a (value.Prio n)) = refl
-asked (call.Chain e (ring.Time m)) = refl
-asked c = refl
-
--- three words
-pub three_asked : (ws : List (Bor (List ℕ))) (d : Bor (List ℕ)) (test b : Bool) → 3 ≤ length ws → length ws < 4
-    → test ≡ ask_name ((get_or ws 0 d).now ∷ (get_or ws 1 d).now ∷ (get_or ws 2 d).now ∷ []) → test ≡ b → ask_name (texts ws) ≡ b
-three_asked ws d test b some few is holds = ap ask_name (three_texts ws d some few) ∙ sym is ∙ holds
-
--- fewer
-pub few_asked : (ws : List (Bor (List ℕ))) → length ws < 3 → ask_name (texts ws) ≡ false
-few_asked [] few = refl
-few_asked (a ∷ []) few = refl
-few_asked (a ∷ b ∷ []) few = refl
-few_asked ws few = absurd (omega arith)
-
--- more
-pub many_asked : (ws : List (Bor (List ℕ))) → 4 ≤ length ws → ask_name (texts ws) ≡ false
-many_asked (a ∷ b ∷ c ∷ d ∷ ws) many = refl
-many_asked ws many = absurd (omega arith)
-
 -- the answer to a call that asks for no name
-pub plain_passed : {E : Type 0} (r : Result (Option Answer) E) (call words : List (List ℕ)) → ask_name call ≡ false
-    → IfOk r (λ found. IsPlainAnswerBack words found) → IfOk r (λ found. IsAnswerBack call words found)
-plain_passed (Ok found) call words fails h = λ c a fine readable same e.
-    let other : asks_name c ≡ false = sym (asked c) ∙ ap ask_name (sym same) ∙ fails in
-    h a (subst (λ (b : Bool). IsReadableBehind b a) other readable) e
-plain_passed (Err e) call words fails h = tt
+pub plain_passed : {E : Type 0} (r : Result (Option Answer) E) (c : Call) (words : List (List ℕ)) → asks_name c ≡ false
+    → IfOk r (λ found. IsPlainAnswerBack words found) → IfOk r (λ found. IsAnswerBack c words found)
+plain_passed r c words fails h =
+    subst (λ (b : Bool). IfOk r (λ found. (a : Answer) → IsReadableBehind b a → words ≡ answer_words a → found ≡ Some a)) (sym fails) h
 
 -- the answer to a call that asks for a name
-pub name_passed : (found : Option Answer) (call words : List (List ℕ)) → ask_name call ≡ true → IsNameAnswerBack words found
-    → IsAnswerBack call words found
-name_passed found call words holds h = λ c a fine readable same e.
-    let name : asks_name c ≡ true = sym (asked c) ∙ ap ask_name (sym same) ∙ holds in
-    h a (subst (λ (b : Bool). IsReadableBehind b a) name readable) e
+pub name_passed : (found : Option Answer) (c : Call) (words : List (List ℕ)) → asks_name c ≡ true → IsNameAnswerBack words found
+    → IsAnswerBack c words found
+name_passed found c words holds h =
+    subst (λ (b : Bool). (a : Answer) → IsReadableBehind b a → words ≡ answer_words a → found ≡ Some a) (sym holds) h
 
 -- an act that makes a call
 pub acted_passed : {E : Type 0} (r : Result (Option Acted) E) (front behind ws : List (List ℕ)) → Some (front, behind) ≡ parted ws

@@ -1,14 +1,12 @@
 -- What is printed of an answer is read back.
-use Rattle.std.proofs.Common.{◌≡◌, ◌∙◌, ◌<◌, ◌≤◌, ◌^◌, ◌==◌, ℕ, ℤ, pos, negsuc, Bool, true, false, List, [], ◌∷◌, length, get_or, take, cond, decimal, codes, Option, Some, None, Result, Ok, Err, w64, FitsSigned, All, refl, sym, ap, arith}
+use Rattle.std.proofs.Common.{◌≡◌, ◌∙◌, ◌<◌, ◌≤◌, ◌^◌, ◌==◌, ℕ, ℤ, pos, negsuc, true, false, List, [], ◌∷◌, length, get_or, decimal, codes, Option, Some, None, Result, Ok, Err, w64, FitsSigned, All, refl, sym, ap, arith}
 use Rattle.std.specs.Prelude.{option_map, slice_index, nat_le, ◌&&◌, IfOk}
 use Rattle.std.specs.Int.{IsInRange}
 use Rattle.std.specs.List.{list_all}
-use Rattle.std.specs.Str.{IsAscii}
 use Rattle.std.specs.Str.Parse.{IsNumeral}
 use Rattle.std.proofs.lemmas.Bool.{and_parts}
 use Rattle.std.proofs.lemmas.Bool.Decides.{nat_tests}
 use Rattle.std.proofs.lemmas.Fmt.{decimal_is_IsNumeral}
-use Rattle.std.proofs.lemmas.Str.Ascii.{IsAscii-nil, IsAscii-cons}
 use Rattle.std.proofs.lemmas.Str.Parse.{digit_from_value}
 use denote.Ref.{Bor}
 use Rattle.pth_base.specs.declared.answer.Answer.{Answer}
@@ -172,23 +170,11 @@ sets_read count s r w x (answer.Fail f) fine e = absurd (cc)
 
 -- ---- names
 
--- a name's bytes are ASCII
-name_bytes_ascii : (w : List ℕ) → list_all (λ b. is_name_byte b) w ≡ true → IsAscii w
-name_bytes_ascii [] fine = IsAscii-nil
-name_bytes_ascii (c ∷ cs) fine =
-    let parts = and_parts (is_name_byte c) (list_all (λ b. is_name_byte b) cs) fine in
-    let here : is_name_byte c ≡ true = parts.0 in
-    IsAscii-cons c cs (grind (arith, nat_tests)) (name_bytes_ascii cs parts.1)
-
 -- the bytes of a name
 bytes_of_name : (w : List ℕ) → is_name w ≡ true → list_all (λ b. is_name_byte b) w ≡ true
 bytes_of_name w is =
     (and_parts (nat_le (length w) 80) (list_all (λ b. is_name_byte b) w)
     (and_parts (nat_le 1 (length w)) (nat_le (length w) 80 && list_all (λ b. is_name_byte b) w) is).1).1
-
--- a name is ASCII
-pub name_ascii : (w : List ℕ) → name_of w ≡ Some w → IsAscii w
-name_ascii w some = name_bytes_ascii w (bytes_of_name w (name_is_name w some))
 
 -- no such bytes name an error
 no_errno : (w : List ℕ) → list_all (λ b. is_name_byte b) w ≡ true → errno_of w ≡ None
@@ -203,15 +189,6 @@ no_errno (c ∷ cs) fine =
 pub no_refusal : (w : List ℕ) → name_of w ≡ Some w → refusal_of w ≡ None
 unfolding refusal_of
 no_refusal w some = ap (option_map (λ e. answer.Fail e)) (no_errno w (bytes_of_name w (name_is_name w some)))
-
--- a name is not cut
-cut_by : (w found : List ℕ) (b : Bool) → cond b (Some found) None ≡ Some w → found ≡ w
-cut_by w found true some = (cc)
-cut_by w found false some = absurd (cc)
-
-pub name_whole : (w : List ℕ) → name_of w ≡ Some w → take 40 w ≡ w
-unfolding name_of
-name_whole w some = cut_by w (take 40 w) (is_name w) some
 
 -- ---- what is found
 
@@ -253,23 +230,22 @@ pub refused_passed : (ws : List (Bor (List ℕ))) (d : Bor (List ℕ)) (x : Answ
 refused_passed ws d x some few found = λ a fine e. refused_by (get_or ws 0 d).now x a found fine (sym (one_text ws d some few) ∙ e)
 
 -- a word that names no error
-text_by : (w : List ℕ) (r : Option Answer) (a : Answer) → None ≡ refusal_of w → (name_of w ≡ Some w → r ≡ Some (answer.Text w))
+text_by : (w : List ℕ) (r : Option Answer) (a : Answer) → None ≡ refusal_of w → r ≡ option_map (λ name. answer.Text name) (name_of w)
     → IsReadableNameAnswer a → w ∷ [] ≡ answer_words a → r ≡ Some a
-text_by w r answer.None none finds fine e = absurd fine
-text_by w r (answer.Int n) none finds fine e = absurd fine
-text_by w r (answer.Bytes bytes) none finds fine e = absurd fine
-text_by w r (answer.Sets count x y z) none finds fine e = absurd fine
-text_by w r (answer.Text name) none finds some e =
+text_by w r answer.None none is fine e = absurd fine
+text_by w r (answer.Int n) none is fine e = absurd fine
+text_by w r (answer.Bytes bytes) none is fine e = absurd fine
+text_by w r (answer.Sets count x y z) none is fine e = absurd fine
+text_by w r (answer.Text name) none is some e =
     let same : w ≡ name = (cc) in
-    let own : name_of w ≡ Some w = ap name_of same ∙ some ∙ ap (λ x. Some x) (sym same) in
-    finds own ∙ ap (λ x. Some (answer.Text x)) same
-text_by w r (answer.Msg id value) none finds fine e = absurd fine
-text_by w r (answer.Fail f) none finds fine e =
+    is ∙ ap (option_map (λ name. answer.Text name)) (ap name_of same ∙ some)
+text_by w r (answer.Msg id value) none is fine e = absurd fine
+text_by w r (answer.Fail f) none is fine e =
     let same : w ≡ errno_word f = (cc) in
     let never : None ≡ Some (answer.Fail f) = none ∙ ap refusal_of same ∙ refusal_back f in
     absurd (cc)
 
 pub text_passed : (ws : List (Bor (List ℕ))) (d : Bor (List ℕ)) (r : Option Answer) → 1 ≤ length ws → length ws < 2
-    → None ≡ refusal_of (get_or ws 0 d).now → (name_of (get_or ws 0 d).now ≡ Some (get_or ws 0 d).now → r ≡ Some (answer.Text (get_or ws 0 d).now))
+    → None ≡ refusal_of (get_or ws 0 d).now → r ≡ option_map (λ name. answer.Text name) (name_of (get_or ws 0 d).now)
     → IsNameAnswerBack (texts ws) r
-text_passed ws d r some few none finds = λ a fine e. text_by (get_or ws 0 d).now r a none finds fine (sym (one_text ws d some few) ∙ e)
+text_passed ws d r some few none is = λ a fine e. text_by (get_or ws 0 d).now r a none is fine (sym (one_text ws d some few) ∙ e)

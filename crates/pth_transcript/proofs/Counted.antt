@@ -8,12 +8,6 @@ pub one_text : (ws : List (Bor (List ℕ))) (d : Bor (List ℕ)) → 1 ≤ lengt
 one_text (a ∷ []) d some few = refl
 one_text ws d some few = absurd (omega arith)
 
--- three words
-pub three_texts : (ws : List (Bor (List ℕ))) (d : Bor (List ℕ)) → 3 ≤ length ws → length ws < 4
-    → texts ws ≡ (get_or ws 0 d).now ∷ (get_or ws 1 d).now ∷ (get_or ws 2 d).now ∷ []
-three_texts (a ∷ b ∷ c ∷ []) d some few = refl
-three_texts ws d some few = absurd (omega arith)
-
 -- four words
 pub four_texts : (ws : List (Bor (List ℕ))) (d : Bor (List ℕ)) → 4 ≤ length ws → length ws < 5
     → texts ws ≡ (get_or ws 0 d).now ∷ (get_or ws 1 d).now ∷ (get_or ws 2 d).now ∷ (get_or ws 3 d).now ∷ []

@@ -1,5 +1,5 @@
 -- The words of an ending are read as that ending.
-use Rattle.std.proofs.Common.{◌≡◌, ◌∙◌, ◌+◌, add-one, ◌<◌, ◌^◌, ◌==◌, ◌++◌, ℕ, Bool, true, false, List, [], ◌∷◌, map, length, get_or, take, drop, decimal, zero, suc, codes, Option, Some, None, All, refl, sym, ap, subst, arith}
+use Rattle.std.proofs.Common.{◌≡◌, ◌∙◌, ◌+◌, add-one, ◌<◌, ◌^◌, ◌==◌, ◌++◌, ℕ, Bool, true, false, List, [], ◌∷◌, map, length, get_or, take, drop, decimal, zero, suc, nat_lt, codes, Option, Some, None, All, refl, sym, ap, subst, arith}
 use Rattle.std.specs.Prelude.{option_map, IsSomeAnd, IsTrue}
 use Rattle.std.specs.Str.{bytes_eq}
 use Rattle.std.proofs.lemmas.Bool.{false≢true}
@@ -20,9 +20,10 @@ use Rattle.pth_print.specs.EndLines.{end_line}
 use Rattle.pth_base.specs.declared.outcome.Outcome.TheVariants as outcome
 use Rattle.pth_transcript.specs.declared.ending.Ending.{Ending}
 use Rattle.pth_transcript.specs.declared.ending.Ending.TheVariants as ending
-use Rattle.pth_transcript.proofs.LinesBack.{HasNoSpace, HaveNoSpace, AreWords, line_back}
+use Rattle.pth_transcript.proofs.LinesBack.{HasNoBlank, HaveNoBlank, AreWords, line_back, line_of_words}
+use Rattle.pth_transcript.proofs.Cuts.{IsLine}
 use Rattle.pth_transcript.proofs.NaturalsBack.{natural_back, thread_back}
-use Rattle.pth_transcript.proofs.WordBytes.{no_space, number_is_word, decimal_word}
+use Rattle.pth_transcript.proofs.WordBytes.{no_blank, number_is_word, decimal_word}
 
 -- a test does not both hold and fail
 pub not_so : (b : Bool) → IsTrue b → b ≡ false → ⊥
@@ -31,47 +32,47 @@ not_so b holds fails = false≢true (sym fails ∙ holds)
 -- ---- words without a space
 
 -- a thread's word
-pub tid_no_space : (t : ℕ) → t < 2 ^ 32 → HasNoSpace (tid_word t)
-tid_no_space t low = All-cons (λ b. (b == code " ") ≡ false) (code "t") (decimal t) refl (no_space (decimal t) (decimal_word t (omega (arith, low))))
+pub tid_no_blank : (t : ℕ) → t < 2 ^ 32 → HasNoBlank (tid_word t)
+tid_no_blank t low = All-cons (λ b. nat_lt (code " ") b ≡ true) (code "t") (decimal t) refl (no_blank (decimal t) (decimal_word t (omega (arith, low))))
 
 -- the word of a shared value
-pub cell_no_space : (v : ℕ) → v < 2 ^ 32 → HasNoSpace (cell v)
-cell_no_space v low = All-cons (λ b. (b == code " ") ≡ false) (code "v") (decimal v) refl (no_space (decimal v) (decimal_word v (omega (arith, low))))
+pub cell_no_blank : (v : ℕ) → v < 2 ^ 32 → HasNoBlank (cell v)
+cell_no_blank v low = All-cons (λ b. nat_lt (code " ") b ≡ true) (code "v") (decimal v) refl (no_blank (decimal v) (decimal_word v (omega (arith, low))))
 
 -- words of threads
-tids_no_space : (ts : List Tid) → All IsReadableTid ts → HaveNoSpace (map tid_word (map (λ t. t.0) ts))
-tids_no_space [] low = tt
-tids_no_space (t ∷ ts) low = (tid_no_space t.0 (All-head IsReadableTid t ts low), tids_no_space ts (All-tail IsReadableTid t ts low))
+tids_no_blank : (ts : List Tid) → All IsReadableTid ts → HaveNoBlank (map tid_word (map (λ t. t.0) ts))
+tids_no_blank [] low = tt
+tids_no_blank (t ∷ ts) low = (tid_no_blank t.0 (All-head IsReadableTid t ts low), tids_no_blank ts (All-tail IsReadableTid t ts low))
 
 -- the words of an ending
-ending_no_space : (e : Ending) → IsReadableEnding e → AreWords (ending_words e)
-ending_no_space (ending.Ended v) fits = record {
+ending_no_blank : (e : Ending) → IsReadableEnding e → AreWords (ending_words e)
+ending_no_blank (ending.Ended v) fits = record {
   first = codes "ended";
   others = number_word v ∷ [];
   are = refl;
-  here = no_space (codes "ended") refl;
-  none = (no_space (number_word v) (number_is_word v fits), tt);
+  here = no_blank (codes "ended") refl;
+  none = (no_blank (number_word v) (number_is_word v fits), tt);
 }
-ending_no_space ending.Killed fine = record {
+ending_no_blank ending.Killed fine = record {
   first = codes "killed";
   others = [];
   are = refl;
-  here = no_space (codes "killed") refl;
+  here = no_blank (codes "killed") refl;
   none = tt;
 }
-ending_no_space (ending.Stalled live) low = record {
+ending_no_blank (ending.Stalled live) low = record {
   first = codes "stalled";
   others = map tid_word (map (λ t. t.0) live.items);
   are = refl;
-  here = no_space (codes "stalled") refl;
-  none = tids_no_space live.items low;
+  here = no_blank (codes "stalled") refl;
+  none = tids_no_blank live.items low;
 }
-ending_no_space (ending.StepLimit n) small = record {
+ending_no_blank (ending.StepLimit n) small = record {
   first = codes "step";
   others = codes "limit" ∷ decimal n ∷ [];
   are = refl;
-  here = no_space (codes "step") refl;
-  none = (no_space (codes "limit") refl, (no_space (decimal n) (decimal_word n small), tt));
+  here = no_blank (codes "step") refl;
+  none = (no_blank (codes "limit") refl, (no_blank (decimal n) (decimal_word n small), tt));
 }
 
 -- the line of an ending is that of its words
@@ -83,7 +84,11 @@ ending_line_is (ending.StepLimit n) = refl
 
 -- a line of an ending has its words
 pub ending_line_back : (line : List ℕ) (e : Ending) → IsReadableEnding e → line ++ codes "\n" ≡ ending_line e → words_of line ≡ ending_words e
-ending_line_back line e fine same = line_back line (ending_words e) (ending_no_space e fine) (same ∙ ending_line_is e)
+ending_line_back line e fine same = line_back line (ending_words e) (ending_no_blank e fine) (same ∙ ending_line_is e)
+
+-- it has an LF at its end alone
+pub ending_is_line : (e : Ending) → IsReadableEnding e → IsLine (ending_line e)
+ending_is_line e fine = line_of_words (ending_line e) (ending_words e) (ending_no_blank e fine) (ending_line_is e)
 
 -- ---- words that are read
 

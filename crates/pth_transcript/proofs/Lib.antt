@@ -1,4 +1,5 @@
 pub mod LineFound
+pub mod Cuts
 pub mod Takings
 pub mod Splits
 pub mod Pieces
@@ -19,3 +20,11 @@ pub mod LinesBack
 pub mod EndingsBack
 pub mod MarksBack
 pub mod ToldBack
+pub mod Refusals
+pub mod ToldParts
+pub mod OneReading
+pub mod ReadValues
+pub mod ReadAnswers
+pub mod ReadMarks
+pub mod ReadWords
+pub mod ReadCalls

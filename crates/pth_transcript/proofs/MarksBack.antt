@@ -51,13 +51,14 @@ use Rattle.pth_print.specs.CallWords.{call_words, words_of}
 use Rattle.pth_print.specs.MarkLines.{acted_words, mark_words}
 use Rattle.pth_print.specs.Parts.{Parts, parts_of}
 use Rattle.pth_print.specs.WordTexts.{number_word, tid_word}
+use Rattle.pth_transcript.specs.AnswerMeanings.{IsAnswerBack}
 use Rattle.pth_transcript.specs.MarkMeanings.{plain_of, unanswered_of}
 use Rattle.pth_transcript.specs.Naturals.{thread_value}
 use Rattle.pth_transcript.specs.Parted.{is_equals, parted}
 use Rattle.pth_transcript.specs.ReadBack.{IsReadBack}
 use Rattle.pth_transcript.specs.Readable.{IsReadable, IsReadableBy}
 use Rattle.pth_transcript.specs.ReadableAnswers.{IsReadableAnswer, IsReadableAct}
-use Rattle.pth_transcript.specs.ReadableMarks.{IsReadableTid, IsReadableMark, thread_of, words_behind, IsMarkBack, IsThreadMarkBack, IsUnansweredBack}
+use Rattle.pth_transcript.specs.ReadableMarks.{IsReadableTid, IsReadableMark, thread_of, words_behind, IsAnsweredBack, IsMarkBack, IsThreadMarkBack, IsUnansweredBack}
 use Rattle.pth_transcript.proofs.EndingsBack.{has_words}
 use Rattle.pth_transcript.proofs.LinesBack.{ended}
 use Rattle.pth_transcript.proofs.NaturalsBack.{index_back, object_back, thread_back}
@@ -297,7 +298,7 @@ by_call t m acted answered unanswered c last found fine other e is =
 -- by the thread with which the line begins
 behind : (t : Tid) (m : Mark) (acted answered unanswered : Option Mark) → IsReadableMark false m → thread_of m ≡ Some t
     → AreFound t m acted answered unanswered → found_behind t acted answered unanswered (words_behind m) ≡ Some m
-unfolding parted
+unfolding parted unanswered_of
 behind t (mark.Dispatch turn at u rank waited allowed) acted answered unanswered fine is found = absurd (no_thread t is)
 behind t (mark.Answered u c a) acted answered unanswered fine is found =
     let same = same_thread t u is in
@@ -401,8 +402,7 @@ same_parted c a ws call answer fine cut e =
 -- a call and its answer
 pub answer_back : (t : Tid) (found : Option Mark) (w : List ℕ) (ws call answer : List (List ℕ)) → bytes_eq w (codes "act") ≡ false
     → parted (w ∷ ws) ≡ Some (call, answer)
-    → ((c : Call) (a : Answer) → IsReadable c → IsReadableAnswer c a → call ≡ call_words c → answer ≡ answer_words a → found ≡ Some (mark.Answered t c a))
-    → IsMarkBack t (w ∷ ws) found
+    → IsAnsweredBack t call answer found → IsMarkBack t (w ∷ ws) found
 answer_back t found w ws call answer fails cut reads m fine is e =
     let here : found_behind t (Some m) found (Some m) (w ∷ ws) ≡ found = rw fails (rw cut refl) in
     sym here ∙ behind_back t m (Some m) found (Some m) (w ∷ ws) fine is e (record {
@@ -516,6 +516,23 @@ no_call_passed t (w ∷ ws) some back =
     subst (λ (us : List (List ℕ)). IsUnansweredBack t us None) (sym (ended (w ∷ ws) (length (w ∷ ws) - 1) w last))
     (no_call_back t None (texts (take (length (w ∷ ws) - 1) (w ∷ ws))) (get_or (w ∷ ws) (length (w ∷ ws) - 1) w).now back)
 
+-- ---- a call and its answer
+
+same_call : (c d : Call) → Some c ≡ Some d → c ≡ d
+same_call c d e = cc
+
+-- the call is read, and the answer to it
+pub answered_back : (t : Tid) (call answer : List (List ℕ)) (c : Call) (found : Option Answer) (r : Option Mark) → IsReadBack call (Some c)
+    → IsAnswerBack c answer found → r ≡ option_map (λ a. mark.Answered t c a) found → IsAnsweredBack t call answer r
+answered_back t call answer c found r reads answers is = λ d a fine readable same e.
+    let own : c ≡ d = same_call c d (reads d fine same) in
+    is ∙ ap (option_map (λ a. mark.Answered t c a)) (answers a (subst (λ c. IsReadableAnswer c a) (sym own) readable) e)
+    ∙ ap (λ c. Some (mark.Answered t c a)) own
+
+-- no call is read
+pub no_call_answered : (t : Tid) (call answer : List (List ℕ)) → IsReadBack call None → IsAnsweredBack t call answer None
+no_call_answered t call answer reads = λ d a fine readable same e. absurd (no_some d (reads d fine same))
+
 -- ---- what is found of the words behind the first
 
 -- of an act
@@ -535,9 +552,7 @@ thread_passed t (Err e) w ws words cut named back = tt
 -- of a call and its answer
 pub answer_passed : {E : Type 0} (t : Tid) (r : Result (Option Mark) E) (w : List ℕ) (ws words call answer : List (List ℕ)) → words ≡ w ∷ ws
     → bytes_eq w (codes "act") ≡ false → parted words ≡ Some (call, answer)
-    → IfOk r (λ found. (c : Call) (a : Answer) → IsReadable c → IsReadableAnswer c a → call ≡ call_words c → answer ≡ answer_words a
-    → found ≡ Some (mark.Answered t c a))
-    → IfOk r (λ found. IsMarkBack t words found)
+    → IfOk r (λ found. IsAnsweredBack t call answer found) → IfOk r (λ found. IsMarkBack t words found)
 answer_passed t (Ok found) w ws words call answer cut fails apart reads =
     subst (λ ws. IsMarkBack t ws found) (sym cut) (answer_back t found w ws call answer fails (ap parted (sym cut) ∙ apart) reads)
 answer_passed t (Err e) w ws words call answer cut fails apart reads = tt

@@ -1,11 +1,13 @@
 -- Bytes are read from their digits piece by piece.
-use Rattle.std.proofs.Common.{◌≡◌, ◌∙◌, ◌<◌, ◌*◌, ◌++◌, ℕ, List, [], ◌∷◌, Option, Some, None, All, length, take, drop, min, refl, sym, ap, arith, append_assoc, append-nil}
+use Rattle.std.proofs.Common.{◌≡◌, ◌∙◌, ◌<◌, ◌*◌, ◌++◌, ℕ, List, [], ◌∷◌, Option, Some, None, All, length, take, drop, min, refl, sym, ap, subst, arith, append_assoc, append-nil}
+use Rattle.std.specs.Prelude.{IfSome}
 use Rattle.std.proofs.Math.Seq.{take-append_seam, drop-append_seam}
 use Rattle.std.proofs.lemmas.Grind.{flat_map-append}
 use Rattle.std.proofs.lemmas.List.{length-take, take-append-drop}
-use Rattle.std.proofs.lemmas.List.Elements.{All-take, All-drop}
+use Rattle.std.proofs.lemmas.List.Elements.{All-append, All-take, All-drop}
 use Rattle.pth_text.specs.Hex.{pair_of, hex_of, hex_bytes}
 use Rattle.pth_text.proofs.Pairs.{written_bytes_are_read}
+use Rattle.pth_transcript.proofs.ReadValues.{hex_fits}
 
 -- the bytes are those that were read and some more, which the digits that are left spell
 pub record IsLeft (bs done rest : List ℕ) : Type 0 where
@@ -79,6 +81,12 @@ piece_added bs done piece rest more after taken e added =
       spelled = left.spelled;
       small = left.small;
     }
+
+-- each byte that was read is below 256
+pub piece_small : (done piece more after : List ℕ) → Some more ≡ hex_bytes piece → after ≡ done ++ more → All (λ b. b < 256) done → All (λ b. b < 256) after
+piece_small done piece more after e added small =
+    let low : All (λ b. b < 256) more = subst (λ o. IfSome o (λ bs. All (λ b. b < 256) bs)) (sym e) (hex_fits piece) in
+    subst (All (λ b. b < 256)) (sym added) (All-append (λ b. b < 256) done more small low)
 
 -- no digits spell no bytes
 no_digits : (more : List ℕ) → length (hex_of more) ≡ 0 → more ≡ []

@@ -1,5 +1,5 @@
 -- The line of a mark is read as that mark.
-use Rattle.std.proofs.Common.{◌≡◌, ◌∙◌, ◌<◌, ◌^◌, ◌++◌, ◌==◌, ◌||◌, ◌&&◌, not, ℕ, ℤ, Bool, true, false, cond, List, [], ◌∷◌, decimal, codes, Option, Some, None, w64, FitsSigned, refl, sym, ap, subst, arith}
+use Rattle.std.proofs.Common.{◌≡◌, ◌∙◌, ◌<◌, ◌^◌, ◌++◌, nat_lt, ℕ, ℤ, Bool, true, false, cond, List, [], ◌∷◌, decimal, codes, Option, Some, None, w64, FitsSigned, refl, sym, ap, arith}
 use Rattle.std.specs.Prelude.{option_map, IsTrue}
 use Rattle.std.specs.Str.{bytes_eq}
 use Rattle.std.specs.Str.Parse.{IsNumeral}
@@ -28,17 +28,17 @@ use Rattle.pth_print.specs.Sets.{set_word}
 use Rattle.pth_print.specs.SpacedWords.{joined_words}
 use Rattle.pth_print.specs.WordTexts.{number_word, hex_word, tid_word}
 use Rattle.pth_transcript.specs.MarkMeanings.{dispatch_of, audited_of, turn_of, woken_of, moved_of, told_plain, told_audited}
-use Rattle.pth_transcript.specs.Plain.{asks_name, is_text, is_plain, IsPlain}
 use Rattle.pth_transcript.specs.Readable.{IsReadable}
-use Rattle.pth_transcript.specs.ReadableAnswers.{IsReadablePlainAnswer, IsReadableNameAnswer, IsReadableBehind, IsReadableAnswer, IsReadableAct}
-use Rattle.pth_transcript.specs.ReadableMarks.{IsReadableTid, IsReadableAudit, IsReadableMark, tells_audit, told_of, thread_of, words_behind, IsToldBack, IsLineBack, IsThreadMarkBack}
+use Rattle.pth_transcript.specs.ReadableAnswers.{asks_name, IsReadablePlainAnswer, IsReadableNameAnswer, IsReadableBehind, IsReadableAnswer, IsReadableAct}
+use Rattle.pth_transcript.specs.ReadableMarks.{IsReadableTid, IsReadableAudit, IsReadableMark, IsReadableTold, tells_audit, told_of, thread_of, words_behind, IsToldBack, IsLineBack, IsThreadMarkBack}
 use Rattle.pth_transcript.specs.Transcript.{told_line}
 use Rattle.pth_transcript.specs.declared.told.Told.{Told}
-use Rattle.pth_transcript.proofs.EndingsBack.{not_so, tid_no_space, cell_no_space}
-use Rattle.pth_transcript.proofs.LinesBack.{HasNoSpace, HaveNoSpace, AreWords, both_no_space, no_spaces, line_back}
+use Rattle.pth_transcript.proofs.EndingsBack.{not_so, tid_no_blank, cell_no_blank}
+use Rattle.pth_transcript.proofs.LinesBack.{HasNoBlank, HaveNoBlank, AreWords, both_no_blank, no_blanks, line_back, line_of_words}
+use Rattle.pth_transcript.proofs.Cuts.{IsLine}
 use Rattle.pth_transcript.proofs.MarksBack.{no_thread}
 use Rattle.pth_transcript.proofs.NaturalsBack.{natural_back, thread_back}
-use Rattle.pth_transcript.proofs.WordBytes.{is_word, no_space, number_is_word, name_is_word, set_is_word, hex_is_word, decimal_word, call_words_are_words}
+use Rattle.pth_transcript.proofs.WordBytes.{is_word, no_blank, number_is_word, name_is_word, set_is_word, hex_is_word, decimal_word, call_words_are_words}
 
 -- ---- lines that do not begin with a thread
 
@@ -127,167 +127,171 @@ words_told o audit m ws fine e found = ap (found_in o) e ∙ told_back o audit m
 -- ---- lines
 
 -- a literal, a number, a number without a sign and a thread have no space
-number_space : (n : ℤ) → FitsSigned w64 n → HasNoSpace (number_word n)
-number_space n fits = no_space (number_word n) (number_is_word n fits)
+number_blank : (n : ℤ) → FitsSigned w64 n → HasNoBlank (number_word n)
+number_blank n fits = no_blank (number_word n) (number_is_word n fits)
 
-decimal_space : (n : ℕ) → n < 2 ^ 64 → HasNoSpace (decimal n)
-decimal_space n small = no_space (decimal n) (decimal_word n small)
+decimal_blank : (n : ℕ) → n < 2 ^ 64 → HasNoBlank (decimal n)
+decimal_blank n small = no_blank (decimal n) (decimal_word n small)
 
-tid_space : (t : Tid) → IsReadableTid t → HasNoSpace (tid_word t.0)
-tid_space t low = tid_no_space t.0 low
+tid_blank : (t : Tid) → IsReadableTid t → HasNoBlank (tid_word t.0)
+tid_blank t low = tid_no_blank t.0 low
 
-call_space : (c : Call) → IsReadable c → HaveNoSpace (call_words c)
-call_space c fine = no_spaces (call_words c) (call_words_are_words c fine)
+call_blank : (c : Call) → IsReadable c → HaveNoBlank (call_words c)
+call_blank c fine = no_blanks (call_words c) (call_words_are_words c fine)
 
 -- the words behind a thread
-behind_thread : (t : Tid) (ws : List (List ℕ)) → IsReadableTid t → HaveNoSpace ws → AreWords (tid_word t.0 ∷ ws)
-behind_thread t ws low none = record { first = tid_word t.0; others = ws; are = refl; here = tid_space t low; none = none }
+behind_thread : (t : Tid) (ws : List (List ℕ)) → IsReadableTid t → HaveNoBlank ws → AreWords (tid_word t.0 ∷ ws)
+behind_thread t ws low none = record { first = tid_word t.0; others = ws; are = refl; here = tid_blank t low; none = none }
 
-audit_space : (audit : Bool) (waited allowed : ℕ) → IsReadableAudit audit waited allowed → HaveNoSpace (audit_words audit waited allowed)
-audit_space true waited allowed fine =
-    (no_space (codes "waited") refl, (decimal_space waited fine.0, (no_space (codes "allowed") refl, (decimal_space allowed fine.1, tt))))
-audit_space false waited allowed fine = tt
+audit_blank : (audit : Bool) (waited allowed : ℕ) → IsReadableAudit audit waited allowed → HaveNoBlank (audit_words audit waited allowed)
+audit_blank true waited allowed fine =
+    (no_blank (codes "waited") refl, (decimal_blank waited fine.0, (no_blank (codes "allowed") refl, (decimal_blank allowed fine.1, tt))))
+audit_blank false waited allowed fine = tt
 
 -- `=`
-equals_space : HasNoSpace (codes "=")
-equals_space = All-cons (λ b. (b == code " ") ≡ false) (code "=") [] refl (All-nil (λ b. (b == code " ") ≡ false))
+equals_blank : HasNoBlank (codes "=")
+equals_blank = All-cons (λ b. nat_lt (code " ") b ≡ true) (code "=") [] refl (All-nil (λ b. nat_lt (code " ") b ≡ true))
 
 -- the name of an error
 errno_is_word : (e : Errno) → is_word (errno_word e) ≡ true
 errno_is_word EPERM = refl
 errno_is_word e = refl
 
-errno_space : (e : Errno) → HaveNoSpace (answer_words (answer.Fail e))
-errno_space e = (no_space (errno_word e) (errno_is_word e), tt)
+errno_blank : (e : Errno) → HaveNoBlank (answer_words (answer.Fail e))
+errno_blank e = (no_blank (errno_word e) (errno_is_word e), tt)
 
 -- an answer that is no text
-plain_space : (a : Answer) → IsReadablePlainAnswer a → HaveNoSpace (answer_words a)
-plain_space answer.None fine = (no_space (codes "none") refl, tt)
-plain_space (answer.Int n) fine = (number_space n fine, tt)
-plain_space (answer.Bytes bytes) fine = (no_space (hex_word bytes) (hex_is_word bytes), tt)
-plain_space (answer.Sets count r w x) fine = (
-  number_space count fine.0,
+plain_blank : (a : Answer) → IsReadablePlainAnswer a → HaveNoBlank (answer_words a)
+plain_blank answer.None fine = (no_blank (codes "none") refl, tt)
+plain_blank (answer.Int n) fine = (number_blank n fine, tt)
+plain_blank (answer.Bytes bytes) fine = (no_blank (hex_word bytes) (hex_is_word bytes), tt)
+plain_blank (answer.Sets count r w x) fine = (
+  number_blank count fine.0,
   (
-    no_space (codes "sets") refl,
+    no_blank (codes "sets") refl,
     (
-      no_space (set_word r.0) (set_is_word r.0),
+      no_blank (set_word r.0) (set_is_word r.0),
       (
-        no_space (set_word w.0) (set_is_word w.0),
-        (no_space (set_word x.0) (set_is_word x.0), tt),
+        no_blank (set_word w.0) (set_is_word w.0),
+        (no_blank (set_word x.0) (set_is_word x.0), tt),
       ),
     ),
   ),
 )
-plain_space (answer.Text name) fine = absurd fine
-plain_space (answer.Msg id value) fine =
-    (no_space (codes "msg") refl, (decimal_space id.0 fine.0, (no_space (codes "value") refl, (number_space value fine.1, tt))))
-plain_space (answer.Fail e) fine = errno_space e
+plain_blank (answer.Text name) fine = absurd fine
+plain_blank (answer.Msg id value) fine =
+    (no_blank (codes "msg") refl, (decimal_blank id.0 fine.0, (no_blank (codes "value") refl, (number_blank value fine.1, tt))))
+plain_blank (answer.Fail e) fine = errno_blank e
 
 -- a name, or an error
-name_space : (a : Answer) → IsReadableNameAnswer a → HaveNoSpace (answer_words a)
-name_space answer.None fine = absurd fine
-name_space (answer.Int n) fine = absurd fine
-name_space (answer.Bytes bytes) fine = absurd fine
-name_space (answer.Sets count r w x) fine = absurd fine
-name_space (answer.Text name) fine = (no_space name (name_is_word name fine), tt)
-name_space (answer.Msg id value) fine = absurd fine
-name_space (answer.Fail e) fine = errno_space e
+name_blank : (a : Answer) → IsReadableNameAnswer a → HaveNoBlank (answer_words a)
+name_blank answer.None fine = absurd fine
+name_blank (answer.Int n) fine = absurd fine
+name_blank (answer.Bytes bytes) fine = absurd fine
+name_blank (answer.Sets count r w x) fine = absurd fine
+name_blank (answer.Text name) fine = (no_blank name (name_is_word name fine), tt)
+name_blank (answer.Msg id value) fine = absurd fine
+name_blank (answer.Fail e) fine = errno_blank e
 
-space_by : (b : Bool) (a : Answer) → IsReadableBehind b a → HaveNoSpace (answer_words a)
-space_by true a fine = name_space a fine
-space_by false a fine = plain_space a fine
+blank_by : (b : Bool) (a : Answer) → IsReadableBehind b a → HaveNoBlank (answer_words a)
+blank_by true a fine = name_blank a fine
+blank_by false a fine = plain_blank a fine
 
 -- an answer to a call
-answer_space : (c : Call) (a : Answer) → IsReadableAnswer c a → HaveNoSpace (answer_words a)
-answer_space c a fine = space_by (asks_name c) a fine
+answer_blank : (c : Call) (a : Answer) → IsReadableAnswer c a → HaveNoBlank (answer_words a)
+answer_blank c a fine = blank_by (asks_name c) a fine
 
 -- an act and its answer
-act_space : (x : Act) (a : Answer) → IsReadableAct x a → HaveNoSpace (acted_words x a)
-act_space (act.Note v) a fine = (no_space (codes "note") refl, (number_space v fine.0, tt))
-act_space (act.Set k v) a fine = (no_space (codes "set") refl, (cell_no_space k fine.0, (number_space v fine.1, tt)))
-act_space (act.Release m) a fine = (no_space (codes "release") refl, (number_space m fine.0, (equals_space, plain_space a fine.1)))
-act_space (act.Notify c v) a fine =
-    (no_space (codes "notify") refl, (number_space c fine.0, (number_space v fine.1, (equals_space, plain_space a fine.2))))
-act_space (act.Put p v) a fine =
-    (no_space (codes "put") refl, (number_space p fine.0, (number_space v fine.1, (equals_space, plain_space a fine.2))))
-act_space (act.SetKey k v) a fine =
-    (no_space (codes "setkey") refl, (number_space k fine.0, (number_space v fine.1, (equals_space, plain_space a fine.2))))
+act_blank : (x : Act) (a : Answer) → IsReadableAct x a → HaveNoBlank (acted_words x a)
+act_blank (act.Note v) a fine = (no_blank (codes "note") refl, (number_blank v fine.0, tt))
+act_blank (act.Set k v) a fine = (no_blank (codes "set") refl, (cell_no_blank k fine.0, (number_blank v fine.1, tt)))
+act_blank (act.Release m) a fine = (no_blank (codes "release") refl, (number_blank m fine.0, (equals_blank, plain_blank a fine.1)))
+act_blank (act.Notify c v) a fine =
+    (no_blank (codes "notify") refl, (number_blank c fine.0, (number_blank v fine.1, (equals_blank, plain_blank a fine.2))))
+act_blank (act.Put p v) a fine =
+    (no_blank (codes "put") refl, (number_blank p fine.0, (number_blank v fine.1, (equals_blank, plain_blank a fine.2))))
+act_blank (act.SetKey k v) a fine =
+    (no_blank (codes "setkey") refl, (number_blank k fine.0, (number_blank v fine.1, (equals_blank, plain_blank a fine.2))))
 
 -- the words of a mark
-mark_space : (audit : Bool) (m : Mark) → IsReadableMark audit m → AreWords (mark_words audit m)
-mark_space audit (mark.Dispatch turn at t rank waited allowed) fine = record {
+mark_blank : (audit : Bool) (m : Mark) → IsReadableMark audit m → AreWords (mark_words audit m)
+mark_blank audit (mark.Dispatch turn at t rank waited allowed) fine = record {
   first = codes "turn";
   others = decimal turn ∷ codes "at" ∷ decimal at ∷ tid_word t.0 ∷ codes "rank" ∷ number_word rank ∷ audit_words audit waited allowed;
   are = refl;
-  here = no_space (codes "turn") refl;
+  here = no_blank (codes "turn") refl;
   none = (
-    decimal_space turn fine.0,
+    decimal_blank turn fine.0,
     (
-      no_space (codes "at") refl,
+      no_blank (codes "at") refl,
       (
-        decimal_space at fine.1,
+        decimal_blank at fine.1,
         (
-          tid_space t fine.2,
+          tid_blank t fine.2,
           (
-            no_space (codes "rank") refl,
-            (number_space rank fine.3, audit_space audit waited allowed fine.4),
+            no_blank (codes "rank") refl,
+            (number_blank rank fine.3, audit_blank audit waited allowed fine.4),
           ),
         ),
       ),
     ),
   );
 }
-mark_space audit (mark.Answered t c a) fine =
+mark_blank audit (mark.Answered t c a) fine =
     behind_thread t (call_words c ++ codes "=" ∷ answer_words a) fine.0
-    (both_no_space (call_words c) (codes "=" ∷ answer_words a) (call_space c fine.1) (equals_space, answer_space c a fine.2))
-mark_space audit (mark.Waits t c) fine =
+    (both_no_blank (call_words c) (codes "=" ∷ answer_words a) (call_blank c fine.1) (equals_blank, answer_blank c a fine.2))
+mark_blank audit (mark.Waits t c) fine =
     behind_thread t (call_words c ++ codes "waits" ∷ []) fine.0
-    (both_no_space (call_words c) (codes "waits" ∷ []) (call_space c fine.1) (no_space (codes "waits") refl, tt))
-mark_space audit (mark.Retakes t c) fine =
+    (both_no_blank (call_words c) (codes "waits" ∷ []) (call_blank c fine.1) (no_blank (codes "waits") refl, tt))
+mark_blank audit (mark.Retakes t c) fine =
     behind_thread t (call_words c ++ codes "retakes" ∷ []) fine.0
-    (both_no_space (call_words c) (codes "retakes" ∷ []) (call_space c fine.1) (no_space (codes "retakes") refl, tt))
-mark_space audit (mark.Canceled t (Some c)) fine =
+    (both_no_blank (call_words c) (codes "retakes" ∷ []) (call_blank c fine.1) (no_blank (codes "retakes") refl, tt))
+mark_blank audit (mark.Canceled t (Some c)) fine =
     behind_thread t (call_words c ++ codes "canceled" ∷ []) fine.0
-    (both_no_space (call_words c) (codes "canceled" ∷ []) (call_space c fine.1) (no_space (codes "canceled") refl, tt))
-mark_space audit (mark.Canceled t None) fine = behind_thread t (codes "canceled" ∷ []) fine (no_space (codes "canceled") refl, tt)
-mark_space audit (mark.Took t m) fine =
+    (both_no_blank (call_words c) (codes "canceled" ∷ []) (call_blank c fine.1) (no_blank (codes "canceled") refl, tt))
+mark_blank audit (mark.Canceled t None) fine = behind_thread t (codes "canceled" ∷ []) fine (no_blank (codes "canceled") refl, tt)
+mark_blank audit (mark.Took t m) fine =
     behind_thread t (codes "takes" ∷ codes "mutex" ∷ decimal m ∷ []) fine.0
-    (no_space (codes "takes") refl, (no_space (codes "mutex") refl, (decimal_space m (omega (arith, fine.1)), tt)))
-mark_space audit (mark.Withdrew t b) fine =
-    behind_thread t (codes "withdraws" ∷ decimal b ∷ []) fine.0 (no_space (codes "withdraws") refl, (decimal_space b (omega (arith, fine.1)), tt))
-mark_space audit (mark.Handler t h arg) fine =
+    (no_blank (codes "takes") refl, (no_blank (codes "mutex") refl, (decimal_blank m (omega (arith, fine.1)), tt)))
+mark_blank audit (mark.Withdrew t b) fine =
+    behind_thread t (codes "withdraws" ∷ decimal b ∷ []) fine.0 (no_blank (codes "withdraws") refl, (decimal_blank b (omega (arith, fine.1)), tt))
+mark_blank audit (mark.Handler t h arg) fine =
     behind_thread t (codes "handler" ∷ decimal h.0 ∷ codes "arg" ∷ number_word arg ∷ []) fine.0
-    (no_space (codes "handler") refl, (decimal_space h.0 (omega (arith, fine.1)), (no_space (codes "arg") refl, (number_space arg fine.2, tt))))
-mark_space audit (mark.Destructor t k arg) fine =
+    (no_blank (codes "handler") refl, (decimal_blank h.0 (omega (arith, fine.1)), (no_blank (codes "arg") refl, (number_blank arg fine.2, tt))))
+mark_blank audit (mark.Destructor t k arg) fine =
     behind_thread t (codes "destructor" ∷ decimal k ∷ codes "arg" ∷ number_word arg ∷ []) fine.0
-    (no_space (codes "destructor") refl, (decimal_space k (omega (arith, fine.1)), (no_space (codes "arg") refl, (number_space arg fine.2, tt))))
-mark_space audit (mark.Acted t x a) fine = behind_thread t (codes "act" ∷ acted_words x a) fine.0 (no_space (codes "act") refl, act_space x a fine.1)
-mark_space audit (mark.GaveMutex t m) fine =
+    (no_blank (codes "destructor") refl, (decimal_blank k (omega (arith, fine.1)), (no_blank (codes "arg") refl, (number_blank arg fine.2, tt))))
+mark_blank audit (mark.Acted t x a) fine = behind_thread t (codes "act" ∷ acted_words x a) fine.0 (no_blank (codes "act") refl, act_blank x a fine.1)
+mark_blank audit (mark.GaveMutex t m) fine =
     behind_thread t (codes "gives" ∷ codes "mutex" ∷ decimal m ∷ []) fine.0
-    (no_space (codes "gives") refl, (no_space (codes "mutex") refl, (decimal_space m (omega (arith, fine.1)), tt)))
-mark_space audit (mark.GaveLock t l) fine =
+    (no_blank (codes "gives") refl, (no_blank (codes "mutex") refl, (decimal_blank m (omega (arith, fine.1)), tt)))
+mark_blank audit (mark.GaveLock t l) fine =
     behind_thread t (codes "gives" ∷ codes "rwlock" ∷ decimal l ∷ []) fine.0
-    (no_space (codes "gives") refl, (no_space (codes "rwlock") refl, (decimal_space l (omega (arith, fine.1)), tt)))
-mark_space audit (mark.Ended t v) fine = behind_thread t (codes "ends" ∷ number_word v ∷ []) fine.0 (no_space (codes "ends") refl, (number_space v fine.1, tt))
-mark_space audit (mark.Noted t v) fine = behind_thread t (codes "note" ∷ number_word v ∷ []) fine.0 (no_space (codes "note") refl, (number_space v fine.1, tt))
-mark_space audit (mark.Woke t rank) fine = record {
+    (no_blank (codes "gives") refl, (no_blank (codes "rwlock") refl, (decimal_blank l (omega (arith, fine.1)), tt)))
+mark_blank audit (mark.Ended t v) fine = behind_thread t (codes "ends" ∷ number_word v ∷ []) fine.0 (no_blank (codes "ends") refl, (number_blank v fine.1, tt))
+mark_blank audit (mark.Noted t v) fine = behind_thread t (codes "note" ∷ number_word v ∷ []) fine.0 (no_blank (codes "note") refl, (number_blank v fine.1, tt))
+mark_blank audit (mark.Woke t rank) fine = record {
   first = codes "wake";
   others = tid_word t.0 ∷ codes "rank" ∷ number_word rank ∷ [];
   are = refl;
-  here = no_space (codes "wake") refl;
-  none = (tid_space t fine.0, (no_space (codes "rank") refl, (number_space rank fine.1, tt)));
+  here = no_blank (codes "wake") refl;
+  none = (tid_blank t fine.0, (no_blank (codes "rank") refl, (number_blank rank fine.1, tt)));
 }
-mark_space audit (mark.Moved at) fine = record {
+mark_blank audit (mark.Moved at) fine = record {
   first = codes "idle";
   others = codes "to" ∷ decimal at ∷ [];
   are = refl;
-  here = no_space (codes "idle") refl;
-  none = (no_space (codes "to") refl, (decimal_space at fine, tt));
+  here = no_blank (codes "idle") refl;
+  none = (no_blank (codes "to") refl, (decimal_blank at fine, tt));
 }
 
 -- a line of a mark has its words
 mark_line_back : (line : List ℕ) (audit : Bool) (m : Mark) → IsReadableMark audit m → line ++ codes "\n" ≡ mark_line audit m → words_of line ≡ mark_words audit m
-mark_line_back line audit m fine e = line_back line (mark_words audit m) (mark_space audit m fine) e
+mark_line_back line audit m fine e = line_back line (mark_words audit m) (mark_blank audit m fine) e
+
+-- it has an LF at its end alone
+pub mark_is_line : (told : Told) → IsReadableTold told → IsLine (told_line told)
+mark_is_line told fine = line_of_words (told_line told) (mark_words told.audit told.mark) (mark_blank told.audit told.mark fine) refl
 
 -- what was found of the words is what the line tells
 pub line_told : (line : List ℕ) (found : Option Told) → IsToldBack (words_of line) found → IsLineBack line found
@@ -318,61 +322,15 @@ same_words audit (mark.Moved at) = refl
 pub same_line : (audit : Bool) (m : Mark) → told_line (told_of audit m) ≡ mark_line audit m
 same_line audit m = ap (λ ws. joined_words ws ++ codes "\n") (same_words audit m)
 
--- an answer to a call is a text only where a name is asked for
-plain_answer : (a : Answer) → IsReadablePlainAnswer a → is_text a ≡ false
-plain_answer answer.None fine = refl
-plain_answer (answer.Int n) fine = refl
-plain_answer (answer.Bytes bytes) fine = refl
-plain_answer (answer.Sets count r w x) fine = refl
-plain_answer (answer.Text name) fine = absurd fine
-plain_answer (answer.Msg id value) fine = refl
-plain_answer (answer.Fail e) fine = refl
-
-answer_plain : (b : Bool) (a : Answer) → IsReadableBehind b a → (b || not (is_text a)) ≡ true
-answer_plain true a fine = refl
-answer_plain false a fine = ap not (plain_answer a fine)
-
-act_plain : (x : Act) (a : Answer) → IsReadableAct x a → not (is_text a) ≡ true
-act_plain (act.Note v) a fine = ap (λ a. not (is_text a)) fine.1
-act_plain (act.Set k v) a fine = ap (λ a. not (is_text a)) fine.2
-act_plain (act.Release m) a fine = ap not (plain_answer a fine.1)
-act_plain (act.Notify c v) a fine = ap not (plain_answer a fine.2)
-act_plain (act.Put p v) a fine = ap not (plain_answer a fine.2)
-act_plain (act.SetKey k v) a fine = ap not (plain_answer a fine.2)
-
-audit_plain : (audit : Bool) (waited allowed : ℕ) → IsReadableAudit audit waited allowed → (audit || ((waited == 0) && (allowed == 0))) ≡ true
-audit_plain true waited allowed fine = refl
-audit_plain false waited allowed fine = rw (fine.0) (rw (fine.1) refl)
-
--- a mark that is read back says no more than its line
-pub mark_plain : (audit : Bool) (m : Mark) → IsReadableMark audit m → is_plain (tells_audit audit m) m ≡ true
-mark_plain audit (mark.Dispatch turn at t rank waited allowed) fine = audit_plain audit waited allowed fine.4
-mark_plain audit (mark.Answered t c a) fine = answer_plain (asks_name c) a fine.2
-mark_plain audit (mark.Acted t x a) fine = act_plain x a fine.1
-mark_plain audit (mark.Waits t c) fine = refl
-mark_plain audit (mark.Retakes t c) fine = refl
-mark_plain audit (mark.Canceled t c) fine = refl
-mark_plain audit (mark.Took t m) fine = refl
-mark_plain audit (mark.Withdrew t b) fine = refl
-mark_plain audit (mark.Handler t h arg) fine = refl
-mark_plain audit (mark.Destructor t k arg) fine = refl
-mark_plain audit (mark.GaveMutex t m) fine = refl
-mark_plain audit (mark.GaveLock t l) fine = refl
-mark_plain audit (mark.Ended t v) fine = refl
-mark_plain audit (mark.Noted t v) fine = refl
-mark_plain audit (mark.Woke t rank) fine = refl
-mark_plain audit (mark.Moved at) fine = refl
-
 same_told : (a b : Told) → Some a ≡ Some b → a ≡ b
 same_told a b e = (cc)
 
--- what is not plain or not printed so is not what the line tells
-pub line_refused : (line : List ℕ) (told : Told) (b : Bool) → IsLineBack line (Some told)
-    → (IsPlain told → line ++ codes "\n" ≡ told_line told → IsTrue b) → b ≡ false → IsLineBack line None
-line_refused line told b back holds fails audit m fine e =
+-- what is not printed so is not what the line tells
+pub line_refused : (line : List ℕ) (told : Told) (b : Bool) → IsLineBack line (Some told) → (line ++ codes "\n" ≡ told_line told → IsTrue b) → b ≡ false
+    → IsLineBack line None
+line_refused line told b back printed fails audit m fine e =
     let same : told ≡ told_of audit m = same_told told (told_of audit m) (back audit m fine e) in
-    let plain : IsPlain told = subst IsPlain (sym same) (mark_plain audit m fine) in
-    absurd (not_so b (holds plain (e ∙ sym (same_line audit m) ∙ ap told_line (sym same))) fails)
+    absurd (not_so b (printed (e ∙ sym (same_line audit m) ∙ ap told_line (sym same))) fails)
 
 -- ---- what is found by the words
 

@@ -1,4 +1,4 @@
--- The words of calls and answers have no space and no `=`.
+-- The words of calls and answers have no space, no LF and no `=`.
 use Rattle.std.proofs.Common.{◌≡◌, ◌∙◌, ◌<◌, ◌≤◌, ◌==◌, ℕ, zero, suc, ℤ, pos, negsuc, Bool, true, false, cond, not, ◌&&◌, nat_lt, nat_le, ◌/◌, ◌%◌, ◌^◌, List, [], ◌∷◌, ◌++◌, length, length-append, flat_map, decimal, codes, Option, Some, None, w64, FitsSigned, All, refl, arith}
 use Rattle.std.specs.Int.{IsInRange}
 use Rattle.std.specs.List.{list_all}
@@ -83,18 +83,17 @@ are_words ws = list_all (λ w. is_word w) ws
 
 -- ---- what such words do not have
 
--- no space
-no_space_in : (bytes : List ℕ) → are_word_bytes bytes ≡ true → All (λ b. (b == code " ") ≡ false) bytes
-no_space_in [] fine = All-nil (λ b. (b == code " ") ≡ false)
-no_space_in (c ∷ cs) fine =
+-- no blank
+no_blank_in : (bytes : List ℕ) → are_word_bytes bytes ≡ true → All (λ b. nat_lt (code " ") b ≡ true) bytes
+no_blank_in [] fine = All-nil (λ b. nat_lt (code " ") b ≡ true)
+no_blank_in (c ∷ cs) fine =
     let parts = and_parts (is_word_byte c) (are_word_bytes cs) fine in
-    let here : is_word_byte c ≡ true = parts.0 in
-    let other : (c == code " ") ≡ false = grind (arith, nat_tests) in
-    All-cons (λ b. (b == code " ") ≡ false) c cs other (no_space_in cs parts.1)
+    let here = and_parts (nat_lt (code " ") c) (not (c == code "=")) parts.0 in
+    All-cons (λ b. nat_lt (code " ") b ≡ true) c cs here.0 (no_blank_in cs parts.1)
 
--- no space stands in a word
-pub no_space : (w : List ℕ) → is_word w ≡ true → All (λ b. (b == code " ") ≡ false) w
-no_space w fine = no_space_in w (and_parts (nat_lt 0 (length w)) (are_word_bytes w) fine).1
+-- no blank stands in a word
+pub no_blank : (w : List ℕ) → is_word w ≡ true → All (λ b. nat_lt (code " ") b ≡ true) w
+no_blank w fine = no_blank_in w (and_parts (nat_lt 0 (length w)) (are_word_bytes w) fine).1
 
 -- a word is not `=`
 pub other_than_equals : (w : List ℕ) → is_word w ≡ true → is_equals w ≡ false

@@ -1,5 +1,5 @@
 -- What the words of answers and acts stand for.
-use Rattle.std.specs.Prelude.{◌≡◌, ◌&&◌, ◌||◌, ℕ, ℤ, Bool, false, List, [], ◌∷◌, Option, Some, None, codes, if◌then◌else◌, option_and_then, option_map}
+use Rattle.std.specs.Prelude.{◌≡◌, ℕ, ℤ, List, [], ◌∷◌, Option, Some, None, codes, if◌then◌else◌, option_and_then, option_map}
 use Rattle.std.specs.Str.{bytes_eq}
 use Rattle.pth_base.specs.declared.act.Act.{Act}
 use Rattle.pth_base.specs.declared.act.Act.TheVariants as act
@@ -12,10 +12,8 @@ use Rattle.pth_text.specs.Number.{numeral_value}
 use Rattle.pth_spelling.specs.Named.{named_in}
 use Rattle.pth_spelling.specs.WordMeanings.{set_of}
 use Rattle.pth_print.specs.AnswerWords.{answer_words}
-use Rattle.pth_print.specs.CallWords.{call_words}
 use Rattle.pth_print.specs.MarkLines.{acted_words}
 use Rattle.pth_transcript.specs.Naturals.{natural_value, cell_value}
-use Rattle.pth_transcript.specs.Readable.{IsReadable}
 use Rattle.pth_transcript.specs.ReadableAnswers.{IsReadablePlainAnswer, IsReadableNameAnswer, IsReadableAnswer, IsReadableAct}
 use Rattle.pth_transcript.specs.declared.act.Acted.{Acted}
 
@@ -102,13 +100,6 @@ silent_of (word ∷ v ∷ []) = note_of word v
 silent_of (word ∷ v ∷ n ∷ []) = set_act_of word v n
 silent_of _ = None
 
--- ---- calls
-
--- the words are those of a call that asks for a name
-abbrev pub ask_name : List (List ℕ) → Bool
-ask_name (a ∷ b ∷ c ∷ []) = (bytes_eq a (codes "ctrl") && bytes_eq b (codes "name")) || (bytes_eq a (codes "attr_get") && bytes_eq c (codes "name"))
-ask_name _ = false
-
 -- ---- what is found is what is printed
 
 -- the answer, which is no text, of which the words are printed
@@ -119,11 +110,14 @@ IsPlainAnswerBack words found = (a : Answer) → IsReadablePlainAnswer a → wor
 abbrev pub IsNameAnswerBack : List (List ℕ) → Option Answer → Type 0
 IsNameAnswerBack words found = (a : Answer) → IsReadableNameAnswer a → words ≡ answer_words a → found ≡ Some a
 
--- the answer to the call of which the other words are printed
-abbrev pub IsAnswerBack : (call words : List (List ℕ)) → Option Answer → Type 0
-IsAnswerBack call words found =
-    (c : Call) (a : Answer) → IsReadable c → IsReadableAnswer c a → call ≡ call_words c → words ≡ answer_words a → found ≡ Some a
+-- the answer to the call
+abbrev pub IsAnswerBack : Call → List (List ℕ) → Option Answer → Type 0
+IsAnswerBack c words found = (a : Answer) → IsReadableAnswer c a → words ≡ answer_words a → found ≡ Some a
 
 -- the act and its answer of which the words are printed
 abbrev pub IsActedBack : List (List ℕ) → Option Acted → Type 0
 IsActedBack words found = (x : Act) (a : Answer) → IsReadableAct x a → words ≡ acted_words x a → found ≡ Some (record { act = x; answer = a })
+
+-- an act that is read back with its answer
+abbrev pub IsReadableActed : Acted → Type 0
+IsReadableActed acted = IsReadableAct acted.act acted.answer

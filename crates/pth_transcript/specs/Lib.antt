@@ -1,6 +1,6 @@
-pub mod Plain
 pub mod Transcript
 pub mod Taking
+pub mod Transcripts
 pub mod Reading
 pub mod Threads
 pub mod Readable

@@ -93,7 +93,7 @@ plain_of t (word ∷ number ∷ arg_word ∷ arg ∷ []) = run_of t word number 
 plain_of t _ = None
 
 -- a mark with a call that is not answered, by its last word
-abbrev pub unanswered_of : Tid → (last : List ℕ) → Call → Option Mark
+unfoldable pub unanswered_of : Tid → (last : List ℕ) → Call → Option Mark
 unanswered_of t last c =
     if bytes_eq last (codes "waits") then Some (mark.Waits t c)
     else (if bytes_eq last (codes "retakes") then Some (mark.Retakes t c)

@@ -5,9 +5,11 @@ use Rattle.pth_base.specs.declared.act.Act.{Act}
 use Rattle.pth_base.specs.declared.act.Act.TheVariants as act
 use Rattle.pth_base.specs.declared.answer.Answer.{Answer}
 use Rattle.pth_base.specs.declared.answer.Answer.TheVariants as answer
+use Rattle.pth_base.specs.declared.attr.AttrField.TheVariants as field
 use Rattle.pth_base.specs.declared.call.Call.{Call}
+use Rattle.pth_base.specs.declared.call.Call.TheVariants as call
+use Rattle.pth_base.specs.declared.query.Query.TheVariants as query
 use Rattle.pth_spelling.specs.WordMeanings.{name_of}
-use Rattle.pth_transcript.specs.Plain.{asks_name}
 
 -- what words can spell of an answer that is no text: numbers of 64 bits, bytes, sets of descriptors below 64
 abbrev pub IsReadablePlainAnswer : Answer → Type 0
@@ -24,6 +26,12 @@ abbrev pub IsReadableNameAnswer : Answer → Type 0
 IsReadableNameAnswer (answer.Text name) = name_of name ≡ Some name
 IsReadableNameAnswer (answer.Fail e) = Unit {0}
 IsReadableNameAnswer a = ⊥
+
+-- a call asks for a name
+abbrev pub asks_name : Call → Bool
+asks_name (call.Ctrl (query.Name t)) = true
+asks_name (call.AttrGet a field.Name) = true
+asks_name c = false
 
 -- an answer to a call that asks for a name, or to another
 abbrev pub IsReadableBehind : (name : Bool) → Answer → Type 0

@@ -1,11 +1,13 @@
 -- Marks and endings whose lines are read back as them.
 use Rattle.std.specs.Prelude.{◌≡◌, ◌<◌, ◌^◌, ◌++◌, ℕ, Bool, true, false, List, [], ◌∷◌, drop, map, Option, Some, None, FitsSigned, IsSomeAnd, All, codes}
 use Rattle.std.specs.Int.{w64}
+use Rattle.pth_base.specs.declared.answer.Answer.{Answer}
 use Rattle.pth_base.specs.declared.call.Call.{Call}
 use Rattle.pth_base.specs.declared.ids.Tid.{Tid}
 use Rattle.pth_base.specs.declared.mark.Mark.{Mark}
 use Rattle.pth_base.specs.declared.mark.Mark.TheVariants as mark
 use Rattle.pth_base.specs.declared.outcome.Outcome.TheVariants as outcome
+use Rattle.pth_print.specs.AnswerWords.{answer_words}
 use Rattle.pth_print.specs.CallWords.{call_words}
 use Rattle.pth_print.specs.EndLines.{end_words}
 use Rattle.pth_print.specs.MarkLines.{mark_words, mark_line}
@@ -48,6 +50,10 @@ IsReadableMark audit (mark.Ended t v) = IsReadableTid t × FitsSigned w64 v
 IsReadableMark audit (mark.Noted t v) = IsReadableTid t × FitsSigned w64 v
 IsReadableMark audit (mark.Woke t rank) = IsReadableTid t × FitsSigned w64 rank
 IsReadableMark audit (mark.Moved at) = at < 2 ^ 64
+
+-- a mark that is read back as its line tells it
+abbrev pub IsReadableTold : Told → Type 0
+IsReadableTold told = IsReadableMark told.audit told.mark
 
 -- an ending that is read back
 abbrev pub IsReadableEnding : Ending → Type 0
@@ -101,6 +107,11 @@ words_behind m = drop 1 (mark_words false m)
 -- what is found is the thread's mark whose words follow the thread
 abbrev pub IsMarkBack : Tid → List (List ℕ) → Option Mark → Type 0
 IsMarkBack t words found = (m : Mark) → IsReadableMark false m → thread_of m ≡ Some t → words ≡ words_behind m → found ≡ Some m
+
+-- what is found is the thread's mark with the call and its answer
+abbrev pub IsAnsweredBack : Tid → (call answer : List (List ℕ)) → Option Mark → Type 0
+IsAnsweredBack t call answer found =
+    (c : Call) (a : Answer) → IsReadable c → IsReadableAnswer c a → call ≡ call_words c → answer ≡ answer_words a → found ≡ Some (mark.Answered t c a)
 
 -- what is found is the thread's mark with the call and the word behind it
 abbrev pub IsUnansweredBack : Tid → List (List ℕ) → Option Mark → Type 0

@@ -1,35 +1,27 @@
 -- What a reader of a transcript answers.
-use Rattle.std.specs.Prelude.{◌≡◌, ◌+◌, ◌-◌, ◌^◌, ℕ, List, min, Result, Err}
+use Rattle.std.specs.Prelude.{◌≡◌, ◌⊎◌, ◌+◌, ◌^◌, ℕ, List, Result, Err}
 use Rattle.pth_streams.specs.Faults.{Rose}
-use Rattle.pth_transcript.specs.Plain.{IsPlain}
-use Rattle.pth_transcript.specs.Transcript.{ending_line, told_line}
 use Rattle.pth_print.specs.declared.fault_line.Fault.{Fault}
 use Rattle.pth_print.specs.declared.fault_line.Fault.TheVariants as fault
 use Rattle.pth_print.specs.declared.fault_line.Flaw.TheVariants.{NoTranscript}
-use Rattle.pth_transcript.specs.declared.reader.Part.{Part}
-use Rattle.pth_transcript.specs.declared.reader.Part.TheVariants as part
+use Rattle.pth_transcript.specs.Taking.{Ahead, HasNoLine, TakesOne}
+use Rattle.pth_transcript.specs.Transcripts.{IsUnknown, next_line}
 
--- the line of a part
-abbrev pub part_line : Part → List ℕ
-part_line (part.Mark told) = told_line told
-part_line (part.Ending ending) = ending_line ending
+-- after so many lines a reader comes to this fault: a line that is refused is the next one, and has this cause
+abbrev pub ComesTo : (lines : ℕ) → (cause : Type 0) → Fault → Type 0
+ComesTo lines cause (fault.Input line why) = (line ≡ next_line lines) × (why ≡ NoTranscript) × cause
+ComesTo lines cause fault.ReadFault = Unit {0}
+ComesTo lines cause fault.OutOfMemory = Unit {0}
+ComesTo lines cause fault.Words = ⊥
+ComesTo lines cause fault.WriteFault = ⊥
 
--- a part says no more than its line
-abbrev pub IsPlainPart : Part → Type 0
-IsPlainPart (part.Mark told) = IsPlain told
-IsPlainPart (part.Ending ending) = Unit {0}
+-- no line of a transcript comes: no line at all, or one that tells no mark and no ending
+abbrev pub ComesNoPart : (old new : Ahead) → Type 0
+ComesNoPart old new = HasNoLine old new ⊎ ((line : List ℕ) × TakesOne line old new × IsUnknown line)
 
--- the number of the next line after so many, up to the last value of a `u64`
-abbrev pub next_line : ℕ → ℕ
-next_line lines = min (lines + 1) (2 ^ 64 - 1)
-
--- after so many lines a reader comes to this fault: a line that is refused is the next one
-abbrev pub ComesTo : ℕ → Fault → Type 0
-ComesTo lines (fault.Input line why) = (line ≡ next_line lines) × (why ≡ NoTranscript)
-ComesTo lines fault.ReadFault = Unit {0}
-ComesTo lines fault.OutOfMemory = Unit {0}
-ComesTo lines fault.Words = ⊥
-ComesTo lines fault.WriteFault = ⊥
+-- after so many lines none of a transcript comes, or one more than can be counted
+abbrev pub IsRefused : (lines : ℕ) → (old new : Ahead) → Type 0
+IsRefused lines old new = ComesNoPart old new ⊎ (lines + 1 ≡ 2 ^ 64)
 
 -- the count of faults rises by one if a read failed, and stands still otherwise
 abbrev pub CountsFault : {T : Type 0} → ℕ → ℕ → Result T Fault → Type 0

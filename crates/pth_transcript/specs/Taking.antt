@@ -1,7 +1,8 @@
 -- What is taken of the input or of a file, a line at a time.
-use Rattle.std.specs.Prelude.{◌≡◌, ◌≢◌, ◌⊎◌, ℕ, Bool, true, false, List, [], ◌++◌, Option, Some, None, Result, Ok, Err, codes}
+use Rattle.std.specs.Prelude.{◌≡◌, ◌≢◌, ◌⊎◌, ◌==◌, ℕ, Bool, true, false, List, [], ◌++◌, Option, Some, None, Result, Ok, Err, All, codes}
 use Rattle.std.specs.Io.KnownBytes.{Consumes, IsAtEnd}
 use Rattle.pth_filter.specs.Objects.{is_file}
+use Rattle.pth_text.specs.Bytes.{code}
 
 -- ---- the object that is read
 
@@ -38,10 +39,25 @@ pub record Takes (old new : Ahead) (text : List ℕ) : Type 0 where
   pub consumed : Consumes old.left new.left read
   pub taken : old.unread ++ read ≡ text ++ new.unread
 
--- A line was taken, with its LF. If there is none nothing was taken, and nothing is left to read.
+-- no LF stands in the text
+abbrev pub IsLineless : List ℕ → Type 0
+IsLineless text = All (λ b. (b == code "\n") ≡ false) text
+
+-- no line comes any more: nothing is left to read, and what was read has no LF
+pub record HasNoLine (old new : Ahead) : Type 0 where
+  pub takes : Takes old new []
+  pub over : IsAtEnd new.left
+  pub lineless : IsLineless new.unread
+
+-- a line was taken, with the LF at its end
+pub record TakesOne (line : List ℕ) (old new : Ahead) : Type 0 where
+  pub takes : Takes old new (line ++ codes "\n")
+  pub lineless : IsLineless line
+
+-- a line was taken, or no line comes any more
 abbrev pub TakesLine : (found : Bool) → (line : List ℕ) → (old new : Ahead) → Type 0
-TakesLine true line old new = Takes old new (line ++ codes "\n")
-TakesLine false line old new = Takes old new [] × IsAtEnd new.left
+TakesLine true line old new = TakesOne line old new
+TakesLine false line old new = HasNoLine old new
 
 -- no line comes any more, and nothing behind the last one
 pub record IsOver (old new : Ahead) : Type 0 where

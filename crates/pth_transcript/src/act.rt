@@ -1,11 +1,11 @@
 //! Acts of handlers, read.
 
-ghost use Rattle.std.specs.Prelude.{◌≡◌, Some, IfOk};
+ghost use Rattle.std.specs.Prelude.{◌≡◌, Some, IfOk, IfSome};
 ghost use Rattle.pth_base.specs.declared.act.Act.{Act};
 ghost use Rattle.pth_base.specs.declared.answer.Answer.{Answer};
 ghost use Rattle.pth_spelling.specs.Texts.{texts};
 ghost use Rattle.pth_print.specs.AnswerWords.{answer_words};
-ghost use Rattle.pth_transcript.specs.AnswerMeanings.{release_of, pair_of, calling_of, note_of, set_act_of, silent_of, IsActedBack};
+ghost use Rattle.pth_transcript.specs.AnswerMeanings.{release_of, pair_of, calling_of, note_of, set_act_of, silent_of, IsActedBack, IsReadableActed};
 ghost use Rattle.pth_transcript.specs.ReadableAnswers.{IsReadablePlainAnswer};
 
 use crate::answer::plain_answer;
@@ -73,10 +73,11 @@ fn calling(words: &[&[u8]]) -> Option<Act>
 
 /// An act that makes a call, with its answer.
 fn answered(alloc: Global, act: &[&[u8]], answer: &[&[u8]]) -> Result<Option<Acted>, OutOfMemory>
-    ensures { IfOk result
+    ensures back { IfOk result
         (λ found. (x : Act) (a : Answer) → calling_of (texts act.now) ≡ Some x
         → IsReadablePlainAnswer a → texts answer.now ≡ answer_words a
         → found ≡ Some (record { act = x; answer = a })) }
+    ensures readable { IfOk result (λ found. IfSome found IsReadableActed) }
 {
     let Some(act) = calling(act) else {
         return Ok(None);
@@ -132,7 +133,8 @@ fn silent(words: &[&[u8]]) -> Option<Acted>
 
 /// An act of a handler.
 pub fn handler_act(alloc: Global, words: &[&[u8]]) -> Result<Option<Acted>, OutOfMemory>
-    ensures { IfOk result (λ found. IsActedBack (texts words.now) found) }
+    ensures back { IfOk result (λ found. IsActedBack (texts words.now) found) }
+    ensures readable { IfOk result (λ found. IfSome found IsReadableActed) }
 {
     match at_equals(words) {
         Some((act, answer)) => answered(alloc, act, answer),

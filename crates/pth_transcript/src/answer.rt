@@ -1,6 +1,6 @@
 //! Answers, read.
 
-ghost use Rattle.std.specs.Prelude.{◌≡◌, ◌<◌, ℕ, List, [], ◌∷◌, All, Some, IfOk, slice_index};
+ghost use Rattle.std.specs.Prelude.{◌≡◌, ◌<◌, ℕ, List, [], ◌∷◌, All, Some, IfOk, IfSome, option_map, slice_index};
 ghost use Rattle.pth_base.specs.declared.answer.Answer.{Answer};
 ghost use Rattle.pth_base.specs.declared.answer.Answer.TheVariants as answer;
 ghost use Rattle.pth_text.specs.Hex.{hex_of};
@@ -8,6 +8,7 @@ ghost use Rattle.pth_spelling.specs.Texts.{texts};
 ghost use Rattle.pth_spelling.specs.WordMeanings.{name_of};
 ghost use Rattle.pth_print.specs.WordTexts.{hex_word};
 ghost use Rattle.pth_transcript.specs.AnswerMeanings.{errno_of, refusal_of, message_of, sets_of, IsPlainAnswerBack, IsNameAnswerBack};
+ghost use Rattle.pth_transcript.specs.ReadableAnswers.{IsReadablePlainAnswer, IsReadableNameAnswer};
 
 use crate::number::natural;
 use pth_base::answer::Answer;
@@ -15,9 +16,8 @@ use pth_base::bytes::Bytes;
 use pth_base::errno::Errno;
 use pth_base::ids::MsgId;
 use pth_base::memory::OutOfMemory;
-use pth_base::name::Name;
 use pth_spelling::named::named;
-use pth_spelling::words::set;
+use pth_spelling::words::{name, set};
 use pth_text::hex::read_hex;
 use pth_text::number::read_number;
 use std::alloc::Global;
@@ -60,8 +60,9 @@ const PIECE: usize = 4096;
 
 /// The bytes that any number of pairs of digits spell.
 fn joined(alloc: Global, digits: &[u8]) -> Result<Option<Bytes>, OutOfMemory>
-    ensures { IfOk result
+    ensures back { IfOk result
         (λ found. (bs : List ℕ) → All (λ b. b < 256) bs → digits.now ≡ hex_of bs → found ≡ Some bs) }
+    ensures readable { IfOk result (λ found. IfSome found (λ bs. All (λ b. b < 256) bs)) }
 {
     let mut bytes = Vec::new(alloc);
     for piece in digits.chunks(PIECE) {
@@ -75,8 +76,9 @@ fn joined(alloc: Global, digits: &[u8]) -> Result<Option<Bytes>, OutOfMemory>
 
 /// The bytes that `hex:` and any number of pairs of digits spell.
 pub fn bytes(alloc: Global, word: &[u8]) -> Result<Option<Bytes>, OutOfMemory>
-    ensures { IfOk result
+    ensures back { IfOk result
         (λ found. (bs : List ℕ) → All (λ b. b < 256) bs → word.now ≡ hex_word bs → found ≡ Some bs) }
+    ensures readable { IfOk result (λ found. IfSome found (λ bs. All (λ b. b < 256) bs)) }
 {
     match word {
         [b'h', b'e', b'x', b':', digits @ ..] => joined(alloc, digits),
@@ -86,9 +88,10 @@ pub fn bytes(alloc: Global, word: &[u8]) -> Result<Option<Bytes>, OutOfMemory>
 
 /// Bytes that were read.
 fn read_bytes(alloc: Global, word: &[u8]) -> Result<Option<Answer>, OutOfMemory>
-    ensures { IfOk result
+    ensures back { IfOk result
         (λ found. (bs : List ℕ) → All (λ b. b < 256) bs → word.now ≡ hex_word bs
         → found ≡ Some (answer.Bytes bs)) }
+    ensures readable { IfOk result (λ found. IfSome found IsReadablePlainAnswer) }
 {
     Ok(bytes(alloc, word)?.map(|bytes| Answer::Bytes(bytes)))
 }
@@ -96,7 +99,8 @@ fn read_bytes(alloc: Global, word: &[u8]) -> Result<Option<Answer>, OutOfMemory>
 /// An answer of one word, by its first byte. A word that begins with `n` is taken for `none`.
 fn by_first(alloc: Global, first: u8, word: &[u8]) -> Result<Option<Answer>, OutOfMemory>
     requires { first ≡ slice_index word.now 0 }
-    ensures { IfOk result (λ found. IsPlainAnswerBack (word.now ∷ []) found) }
+    ensures back { IfOk result (λ found. IsPlainAnswerBack (word.now ∷ []) found) }
+    ensures readable { IfOk result (λ found. IfSome found IsReadablePlainAnswer) }
 {
     if first == b'E' {
         return Ok(refusal(word));
@@ -119,7 +123,8 @@ fn first_byte(word: &[u8]) -> u8
 
 /// An answer of one word.
 fn one_word(alloc: Global, word: &[u8]) -> Result<Option<Answer>, OutOfMemory>
-    ensures { IfOk result (λ found. IsPlainAnswerBack (word.now ∷ []) found) }
+    ensures back { IfOk result (λ found. IsPlainAnswerBack (word.now ∷ []) found) }
+    ensures readable { IfOk result (λ found. IfSome found IsReadablePlainAnswer) }
 {
     by_first(alloc, first_byte(word), word)
 }
@@ -155,7 +160,8 @@ fn sets(count: &[u8], r: &[u8], w: &[u8], x: &[u8]) -> Option<Answer>
 
 /// An answer that is no text.
 pub fn plain_answer(alloc: Global, words: &[&[u8]]) -> Result<Option<Answer>, OutOfMemory>
-    ensures { IfOk result (λ found. IsPlainAnswerBack (texts words.now) found) }
+    ensures back { IfOk result (λ found. IsPlainAnswerBack (texts words.now) found) }
+    ensures readable { IfOk result (λ found. IfSome found IsReadablePlainAnswer) }
 {
     match words {
         [word] => one_word(alloc, word),
@@ -165,22 +171,18 @@ pub fn plain_answer(alloc: Global, words: &[&[u8]]) -> Result<Option<Answer>, Ou
     }
 }
 
-/// A text of ASCII characters.
+/// A name.
 fn text(word: &[u8]) -> Option<Answer>
-    ensures { name_of word.now ≡ Some word.now → result ≡ Some (answer.Text word.now) }
+    ensures { result ≡ option_map (λ name. answer.Text name) (name_of word.now) }
 {
-    if !word.is_ascii() {
-        return None;
-    }
-    match str::from_utf8(word) {
-        Ok(text) => Some(Answer::Text(Name::cut(text))),
-        Err(_) => None,
-    }
+    let name = name(word)?;
+    Some(Answer::Text(name))
 }
 
-/// An answer that is a text or an error, as that of a call which asks for a name.
+/// An answer that is a name or an error, as that of a call which asks for a name.
 pub fn name_answer(words: &[&[u8]]) -> Option<Answer>
-    ensures { IsNameAnswerBack (texts words.now) result }
+    ensures back { IsNameAnswerBack (texts words.now) result }
+    ensures readable { IfSome result IsReadableNameAnswer }
 {
     match words {
         [word] => match refusal(word) {

@@ -6,7 +6,7 @@ ghost use Rattle.pth_print.specs.WordTexts.{tid_word};
 ghost use Rattle.pth_spelling.specs.Texts.{texts};
 ghost use Rattle.pth_text.specs.LineWords.{words_of};
 ghost use Rattle.pth_transcript.specs.MarkMeanings.{ending_of};
-ghost use Rattle.pth_transcript.specs.ReadableMarks.{IsReadableTid, IsEndingBack, IsEndingLineBack};
+ghost use Rattle.pth_transcript.specs.ReadableMarks.{IsReadableTid, IsReadableEnding, IsEndingBack, IsEndingLineBack};
 ghost use Rattle.pth_transcript.specs.Transcript.{ending_line};
 
 use crate::number::{natural, thread};
@@ -35,10 +35,11 @@ pub enum Ending {
 
 /// Threads by their words.
 fn threads(alloc: Global, words: &[&[u8]]) -> Result<Option<Vec<Tid>>, OutOfMemory>
-    ensures { IfOk result
+    ensures back { IfOk result
         (λ found. (ts : List Tid) → All IsReadableTid ts
         → texts words.now ≡ map tid_word (map (λ t. t.0) ts)
         → IsSomeAnd found (λ live. live.items ≡ ts)) }
+    ensures readable { IfOk result (λ found. IfSome found (λ live. All IsReadableTid live.items)) }
 {
     let mut live = Vec::new(alloc);
     for word in words {
@@ -52,7 +53,8 @@ fn threads(alloc: Global, words: &[&[u8]]) -> Result<Option<Vec<Tid>>, OutOfMemo
 
 /// A stall, by the threads that are not dead.
 fn stalled(alloc: Global, words: &[&[u8]]) -> Result<Option<Ending>, OutOfMemory>
-    ensures { IfOk result (λ found. IsEndingBack (codes "stalled" ∷ texts words.now) found) }
+    ensures back { IfOk result (λ found. IsEndingBack (codes "stalled" ∷ texts words.now) found) }
+    ensures readable { IfOk result (λ found. IfSome found IsReadableEnding) }
 {
     let Some(live) = threads(alloc, words)? else {
         return Ok(None);
@@ -80,7 +82,8 @@ fn other(words: &[&[u8]]) -> Option<Ending>
 
 /// The ending that words tell.
 fn ending_by(alloc: Global, words: &[&[u8]]) -> Result<Option<Ending>, OutOfMemory>
-    ensures { IfOk result (λ found. IsEndingBack (texts words.now) found) }
+    ensures back { IfOk result (λ found. IsEndingBack (texts words.now) found) }
+    ensures readable { IfOk result (λ found. IfSome found IsReadableEnding) }
 {
     let [first, live @ ..] = words else {
         return Ok(None);
@@ -93,7 +96,8 @@ fn ending_by(alloc: Global, words: &[&[u8]]) -> Result<Option<Ending>, OutOfMemo
 
 /// The ending that a line tells, read loosely: it may be printed otherwise.
 fn read_loosely(alloc: Global, line: &[u8]) -> Result<Option<Ending>, OutOfMemory>
-    ensures { IfOk result (λ found. IsEndingBack (words_of line.now) found) }
+    ensures back { IfOk result (λ found. IsEndingBack (words_of line.now) found) }
+    ensures readable { IfOk result (λ found. IfSome found IsReadableEnding) }
 {
     let words = words(alloc, line)?;
     ending_by(alloc, words.as_slice())
@@ -124,6 +128,7 @@ fn is_printed(alloc: Global, ending: &Ending, line: &[u8]) -> Result<bool, OutOf
 /// The ending that a line tells, without its LF, and `None` if no ending is printed so.
 pub fn read_ending(alloc: Global, line: &[u8]) -> Result<Option<Ending>, OutOfMemory>
     ensures spelled { IfOk result (λ found. IfSome found (λ ending. line.now ++ codes "\n" ≡ ending_line ending)) }
+    ensures readable { IfOk result (λ found. IfSome found IsReadableEnding) }
     ensures back { IfOk result (λ found. IsEndingLineBack line.now found) }
 {
     let Some(ending) = read_loosely(alloc, line)? else {

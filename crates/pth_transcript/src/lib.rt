@@ -10,7 +10,6 @@ mod call;
 pub mod ending;
 mod lines;
 mod number;
-mod plain;
 mod printed;
 pub mod reader;
 mod split;

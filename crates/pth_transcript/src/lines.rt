@@ -1,11 +1,11 @@
 //! The lines of an input or of a file, one by one.
 
-ghost use Rattle.std.specs.Prelude.{◌≡◌, ◌<◌, ◌≤◌, [], ◌++◌, IfOk, codes, length, true, false};
+ghost use Rattle.std.specs.Prelude.{◌≡◌, ◌<◌, ◌≤◌, [], ◌++◌, IfOk, codes, length, take, true, false};
 ghost use Rattle.std.specs.Io.{ReadsAtMost};
 ghost use Rattle.std.specs.Io.KnownBytes.{IsAtEnd, ReadConsumes};
 ghost use Rattle.pth_streams.specs.Faults.{Counts, CountsRead};
 ghost use Rattle.pth_filter.specs.Objects.{OtherStays, of_read};
-ghost use Rattle.pth_transcript.specs.Taking.{IsStarted, Takes, TakesLine, ahead};
+ghost use Rattle.pth_transcript.specs.Taking.{IsLineless, IsStarted, Takes, TakesLine, ahead};
 
 use pth_streams::files::Files;
 use pth_streams::source::{Failed, ReadFault, Source};
@@ -125,6 +125,7 @@ impl Lines {
             (ahead self.new.unread (of_read self.old.of_file (S.left input.new) (F.left files.new))) []) }
         ensures over { IfOk result (λ more. more ≡ false → IsAtEnd (of_read self.old.of_file (S.left input.new) (F.left files.new))) }
         ensures grows { IfOk result (λ more. more ≡ true → length self.old.unread < length self.new.unread) }
+        ensures none { IfOk result (λ more. more ≡ false → self.new.unread ≡ self.old.unread) }
         ensures counts { CountsRead (of_read self.old.of_file (S.faults input.old) (F.faults files.old))
             (of_read self.old.of_file (S.faults input.new) (F.faults files.new)) result }
         ensures other { OtherStays self.old.of_file input.old input.new files.old files.new }
@@ -139,10 +140,13 @@ impl Lines {
 
     // Takes the next line, if it was read whole. Its first `seen` bytes have no LF.
     fn take_read(&mut self, seen: usize) -> Result<bool, AllocError>
-        requires { seen ≤ length self.old.unread }
+        requires seen { seen ≤ length self.old.unread }
+        requires lineless { IsLineless (take seen self.old.unread) }
         ensures same { self.new.of_file ≡ self.old.of_file }
         ensures line { IfOk result (λ found. found ≡ true → self.old.unread ≡ (self.new.line ++ codes "\n") ++ self.new.unread) }
+        ensures one { IfOk result (λ found. found ≡ true → IsLineless self.new.line) }
         ensures none { IfOk result (λ found. found ≡ false → self.new.unread ≡ self.old.unread) }
+        ensures lineless { IfOk result (λ found. found ≡ false → IsLineless self.new.unread) }
     {
         let Some(end) = line_end(&self.bytes, self.rest + seen) else {
             return Ok(false);
@@ -160,13 +164,14 @@ impl Lines {
         self.bytes.len() - self.rest
     }
 
-    // Reads on until the next line is whole, takes it, and answers whether there is one.
+    // Reads on until the next line is whole, takes it, and answers whether there is one. What was read so far has no LF.
     fn take_further<S: Source, F: Files>(
         &mut self,
         input: &mut S,
         files: &mut F,
     ) -> Result<bool, ReadFault>
         requires started { IsStarted self.old.of_file (F.started files.old) }
+        requires lineless { IsLineless self.old.unread }
         ensures started { IsStarted self.new.of_file (F.started files.new) }
         ensures same { self.new.of_file ≡ self.old.of_file }
         ensures takes { IfOk result (λ found. TakesLine found self.new.line

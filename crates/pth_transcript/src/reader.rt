@@ -1,8 +1,9 @@
 //! A transcript, read line by line.
 
-ghost use Rattle.std.specs.Prelude.{◌≡◌, ◌+◌, ◌<◌, ◌^◌, ◌++◌, ◌⊎◌, [], IfOk, IfSome, IfErr, codes, option_map, true, false};
+ghost use Rattle.std.specs.Prelude.{◌≡◌, ◌+◌, ◌<◌, ◌^◌, ◌++◌, ◌⊎◌, [], IfOk, IfSome, IfErr, None, codes, option_map, true, false};
 ghost use Rattle.pth_streams.specs.Faults.{Counts, CountsRead};
-ghost use Rattle.pth_transcript.specs.Reading.{ComesTo, CountsFault, IsPlainPart, part_line};
+ghost use Rattle.pth_transcript.specs.Reading.{ComesNoPart, ComesTo, CountsFault, IsRefused};
+ghost use Rattle.pth_transcript.specs.Transcripts.{IsToldPart, IsUnknown, part_line};
 ghost use Rattle.pth_filter.specs.Objects.{OtherStays, is_file, of_read};
 ghost use Rattle.pth_transcript.specs.Taking.{HasMore, IsOver, IsStarted, Opens, Takes, ahead};
 
@@ -42,7 +43,8 @@ impl Model for Reader {
 // What a line tells.
 fn read_part(alloc: Global, line: &[u8]) -> Result<Option<Part>, OutOfMemory>
     ensures spelled { IfOk result (λ found. IfSome found (λ part. line.now ++ codes "\n" ≡ part_line part)) }
-    ensures plain { IfOk result (λ found. IfSome found IsPlainPart) }
+    ensures told { IfOk result (λ found. IfSome found IsToldPart) }
+    ensures unknown { IfOk result (λ found. found ≡ None → IsUnknown line.now) }
 {
     if let Some(told) = read_line(alloc, line)? {
         return Ok(Some(Part::Mark(told)));
@@ -96,10 +98,13 @@ impl Reader {
         ensures started { IsStarted self.new.of_file (F.started files.new) }
         ensures same { self.new.of_file ≡ self.old.of_file }
         ensures count { self.new.lines ≡ self.old.lines }
-        ensures plain { IfOk result (λ found. IfSome found IsPlainPart) }
+        ensures told { IfOk result (λ found. IfSome found IsToldPart) }
         ensures takes { IfOk result (λ found. IfSome found (λ part. Takes
             (ahead self.old.unread (of_read self.old.of_file (S.left input.old) (F.left files.old)))
             (ahead self.new.unread (of_read self.old.of_file (S.left input.new) (F.left files.new))) (part_line part))) }
+        ensures none { IfOk result (λ found. found ≡ None → ComesNoPart
+            (ahead self.old.unread (of_read self.old.of_file (S.left input.old) (F.left files.old)))
+            (ahead self.new.unread (of_read self.old.of_file (S.left input.new) (F.left files.new)))) }
         ensures counts { CountsRead (of_read self.old.of_file (S.faults input.old) (F.faults files.old))
             (of_read self.old.of_file (S.faults input.new) (F.faults files.new)) result }
         ensures other { OtherStays self.old.of_file input.old input.new files.old files.new }
@@ -128,8 +133,10 @@ impl Reader {
             (ahead self.new.unread (of_read self.old.of_file (S.left input.new) (F.left files.new))) (part_line part)) }
         ensures lines { IfOk result (λ _. self.new.lines ≡ self.old.lines + 1) }
         ensures few { self.new.lines < 2 ^ 64 }
-        ensures plain { IfOk result IsPlainPart }
-        ensures fault { IfErr result (ComesTo self.old.lines) }
+        ensures told { IfOk result IsToldPart }
+        ensures fault { IfErr result (ComesTo self.old.lines (IsRefused self.old.lines
+            (ahead self.old.unread (of_read self.old.of_file (S.left input.old) (F.left files.old)))
+            (ahead self.new.unread (of_read self.old.of_file (S.left input.new) (F.left files.new))))) }
         ensures counts { CountsFault (of_read self.old.of_file (S.faults input.old) (F.faults files.old))
             (of_read self.old.of_file (S.faults input.new) (F.faults files.new)) result }
         ensures other { OtherStays self.old.of_file input.old input.new files.old files.new }

@@ -1,19 +1,15 @@
 //! Marks of a thread, read.
 
-ghost use Rattle.std.specs.Prelude.{◌≡◌, [], ◌∷◌, Some, IfOk};
+ghost use Rattle.std.specs.Prelude.{◌≡◌, Some, IfOk, IfSome, false};
 ghost use Rattle.pth_base.specs.declared.act.Act.{Act};
 ghost use Rattle.pth_base.specs.declared.answer.Answer.{Answer};
-ghost use Rattle.pth_base.specs.declared.call.Call.{Call};
 ghost use Rattle.pth_base.specs.declared.mark.Mark.TheVariants as mark;
-ghost use Rattle.pth_print.specs.AnswerWords.{answer_words};
-ghost use Rattle.pth_print.specs.CallWords.{call_words};
 ghost use Rattle.pth_print.specs.MarkLines.{acted_words};
 ghost use Rattle.pth_spelling.specs.Texts.{texts};
-ghost use Rattle.pth_transcript.specs.AnswerMeanings.{ask_name, IsAnswerBack};
+ghost use Rattle.pth_transcript.specs.AnswerMeanings.{IsAnswerBack};
 ghost use Rattle.pth_transcript.specs.MarkMeanings.{valued_of, taken_of, given_of, held_of, run_of, plain_of, unanswered_of};
-ghost use Rattle.pth_transcript.specs.Readable.{IsReadable};
-ghost use Rattle.pth_transcript.specs.ReadableAnswers.{IsReadableAnswer, IsReadableAct};
-ghost use Rattle.pth_transcript.specs.ReadableMarks.{IsMarkBack, IsThreadMarkBack, IsUnansweredBack};
+ghost use Rattle.pth_transcript.specs.ReadableAnswers.{asks_name, IsReadableAnswer, IsReadableAct};
+ghost use Rattle.pth_transcript.specs.ReadableMarks.{IsReadableMark, IsAnsweredBack, IsMarkBack, IsThreadMarkBack, IsUnansweredBack};
 
 use crate::act::handler_act;
 use crate::answer::{name_answer, plain_answer};
@@ -21,10 +17,12 @@ use crate::call::call;
 use crate::number::{index, object, thread};
 use crate::split::at_equals;
 use pth_base::answer::Answer;
+use pth_base::attr::AttrField;
 use pth_base::call::Call;
 use pth_base::ids::{HandlerId, Tid};
 use pth_base::mark::Mark;
 use pth_base::memory::OutOfMemory;
+use pth_base::query::Query;
 use pth_text::number::read_number;
 use std::alloc::Global;
 
@@ -118,9 +116,10 @@ fn plain(tid: Tid, words: &[&[u8]]) -> Option<Mark>
 
 /// An act of a handler that the thread runs.
 fn act(alloc: Global, tid: Tid, words: &[&[u8]]) -> Result<Option<Mark>, OutOfMemory>
-    ensures { IfOk result
+    ensures back { IfOk result
         (λ found. (x : Act) (a : Answer) → IsReadableAct x a → texts words.now ≡ acted_words x a
         → found ≡ Some (mark.Acted tid x a)) }
+    ensures readable { IfOk result (λ found. IfSome found (IsReadableMark false)) }
 {
     Ok(handler_act(alloc, words)?.map(|told| Mark::Acted {
         tid,
@@ -129,22 +128,29 @@ fn act(alloc: Global, tid: Tid, words: &[&[u8]]) -> Result<Option<Mark>, OutOfMe
     }))
 }
 
-/// Whether three words are those of a call that asks for a name.
-fn asks_name(a: &[u8], b: &[u8], c: &[u8]) -> bool
-    ensures { result ≡ ask_name (a.now ∷ b.now ∷ c.now ∷ []) }
-{
-    (a == b"ctrl".as_slice() && b == b"name".as_slice())
-        || (a == b"attr_get".as_slice() && c == b"name".as_slice())
-}
-
-/// The answer to the call that words tell.
-fn answer(alloc: Global, call: &[&[u8]], words: &[&[u8]]) -> Result<Option<Answer>, OutOfMemory>
-    ensures { IfOk result (λ found. IsAnswerBack (texts call.now) (texts words.now) found) }
+/// Whether a call asks for a name.
+fn asks_name(call: &Call) -> bool
+    ensures { result ≡ asks_name call.now }
 {
     match call {
-        [a, b, c] if asks_name(a, b, c) => Ok(name_answer(words)),
-        _ => plain_answer(alloc, words),
+        Call::Ctrl(Query::Name(_))
+        | Call::AttrGet {
+            f: AttrField::Name,
+            ..
+        } => true,
+        _ => false,
     }
+}
+
+/// The answer to a call.
+fn answer(alloc: Global, call: &Call, words: &[&[u8]]) -> Result<Option<Answer>, OutOfMemory>
+    ensures back { IfOk result (λ found. IsAnswerBack call.now (texts words.now) found) }
+    ensures readable { IfOk result (λ found. IfSome found (IsReadableAnswer call.now)) }
+{
+    if asks_name(call) {
+        return Ok(name_answer(words));
+    }
+    plain_answer(alloc, words)
 }
 
 /// A call and its answer.
@@ -154,18 +160,18 @@ fn answered(
     words: &[&[u8]],
     answer_texts: &[&[u8]],
 ) -> Result<Option<Mark>, OutOfMemory>
-    ensures { IfOk result
-        (λ found. (c : Call) (a : Answer) → IsReadable c → IsReadableAnswer c a
-        → texts words.now ≡ call_words c → texts answer_texts.now ≡ answer_words a
-        → found ≡ Some (mark.Answered tid c a)) }
+    ensures back { IfOk result
+        (λ found. IsAnsweredBack tid (texts words.now) (texts answer_texts.now) found) }
+    ensures readable { IfOk result (λ found. IfSome found (IsReadableMark false)) }
 {
-    let Some(answer) = answer(alloc, words, answer_texts)? else {
+    let Some(call) = call(alloc, words)? else {
         return Ok(None);
     };
-    Ok(call(alloc, words)?.map(|call| Mark::Answered { tid, call, answer }))
+    Ok(answer(alloc, &call, answer_texts)?.map(|answer| Mark::Answered { tid, call, answer }))
 }
 
 /// A mark with a call that is not answered, by its last word.
+#[tactic(auto, unfolding(crate::specs::MarkMeanings::unanswered_of))]
 fn unfinished(tid: Tid, last: &[u8], call: Call) -> Option<Mark>
     ensures { result ≡ unanswered_of tid last.now call }
 {
@@ -185,7 +191,8 @@ fn unfinished(tid: Tid, last: &[u8], call: Call) -> Option<Mark>
 
 /// A call that suspends its thread, or in which the thread is canceled.
 fn unanswered(alloc: Global, tid: Tid, words: &[&[u8]]) -> Result<Option<Mark>, OutOfMemory>
-    ensures { IfOk result (λ found. IsUnansweredBack tid (texts words.now) found) }
+    ensures back { IfOk result (λ found. IsUnansweredBack tid (texts words.now) found) }
+    ensures readable { IfOk result (λ found. IfSome found (IsReadableMark false)) }
 {
     let [words @ .., last] = words else {
         return Ok(None);
@@ -198,7 +205,8 @@ fn unanswered(alloc: Global, tid: Tid, words: &[&[u8]]) -> Result<Option<Mark>, 
 
 /// A mark of a thread, by the words behind it.
 fn mark_of(alloc: Global, tid: Tid, words: &[&[u8]]) -> Result<Option<Mark>, OutOfMemory>
-    ensures { IfOk result (λ found. IsMarkBack tid (texts words.now) found) }
+    ensures back { IfOk result (λ found. IsMarkBack tid (texts words.now) found) }
+    ensures readable { IfOk result (λ found. IfSome found (IsReadableMark false)) }
 {
     let [first, rest @ ..] = words else {
         return Ok(None);
@@ -217,7 +225,8 @@ fn mark_of(alloc: Global, tid: Tid, words: &[&[u8]]) -> Result<Option<Mark>, Out
 
 /// A mark of a thread, by its line's words.
 pub fn thread_mark(alloc: Global, words: &[&[u8]]) -> Result<Option<Mark>, OutOfMemory>
-    ensures { IfOk result (λ found. IsThreadMarkBack (texts words.now) found) }
+    ensures back { IfOk result (λ found. IsThreadMarkBack (texts words.now) found) }
+    ensures readable { IfOk result (λ found. IfSome found (IsReadableMark false)) }
 {
     let [first, rest @ ..] = words else {
         return Ok(None);

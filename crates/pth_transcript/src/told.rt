@@ -4,11 +4,9 @@ ghost use Rattle.std.specs.Prelude.{◌≡◌, ◌++◌, IfOk, IfSome, IsTrue, c
 ghost use Rattle.pth_spelling.specs.Texts.{texts};
 ghost use Rattle.pth_text.specs.LineWords.{words_of};
 ghost use Rattle.pth_transcript.specs.MarkMeanings.{told_plain};
-ghost use Rattle.pth_transcript.specs.Plain.{IsPlain};
-ghost use Rattle.pth_transcript.specs.ReadableMarks.{IsToldBack, IsLineBack};
+ghost use Rattle.pth_transcript.specs.ReadableMarks.{IsReadableTold, IsToldBack, IsLineBack};
 ghost use Rattle.pth_transcript.specs.Transcript.{told_line};
 
-use crate::plain::is_plain;
 use crate::printed::is_line;
 use crate::thread::thread_mark;
 use crate::turn::{moved, turn, woke};
@@ -38,7 +36,8 @@ fn unaudited(mark: Option<Mark>) -> Option<Told>
 
 /// What the words of a line tell.
 fn told_by(alloc: Global, words: &[&[u8]]) -> Result<Option<Told>, OutOfMemory>
-    ensures { IfOk result (λ found. IsToldBack (texts words.now) found) }
+    ensures back { IfOk result (λ found. IsToldBack (texts words.now) found) }
+    ensures readable { IfOk result (λ found. IfSome found IsReadableTold) }
 {
     let [first, rest @ ..] = words else {
         return Ok(None);
@@ -57,7 +56,8 @@ fn told_by(alloc: Global, words: &[&[u8]]) -> Result<Option<Told>, OutOfMemory>
 
 /// What a line tells, read loosely: it may be printed otherwise.
 fn read_loosely(alloc: Global, line: &[u8]) -> Result<Option<Told>, OutOfMemory>
-    ensures { IfOk result (λ found. IsToldBack (words_of line.now) found) }
+    ensures back { IfOk result (λ found. IsToldBack (words_of line.now) found) }
+    ensures readable { IfOk result (λ found. IfSome found IsReadableTold) }
 {
     let words = words(alloc, line)?;
     told_by(alloc, words.as_slice())
@@ -73,30 +73,17 @@ fn is_printed(alloc: Global, told: &Told, line: &[u8]) -> Result<bool, OutOfMemo
     Ok(is_line(text.as_slice(), line))
 }
 
-/// Whether a mark says no more than its line, and is printed so.
-fn is_told(alloc: Global, told: &Told, line: &[u8]) -> Result<bool, OutOfMemory>
-    ensures plain { IfOk result (λ b. IsTrue b → IsPlain told.now) }
-    ensures spelled { IfOk result (λ b. IsTrue b → line.now ++ codes "\n" ≡ told_line told.now) }
-    ensures holds { IfOk result
-        (λ b. IsPlain told.now → line.now ++ codes "\n" ≡ told_line told.now → IsTrue b) }
-{
-    if !is_plain(told.audit, &told.mark) {
-        return Ok(false);
-    }
-    is_printed(alloc, told, line)
-}
-
 /// The mark that a line tells, without its LF, and `None` if no mark of a script's run is printed so. If a dispatch does not tell
 /// how long its thread has waited, it waited 0 turns and may wait 0.
 pub fn read_line(alloc: Global, line: &[u8]) -> Result<Option<Told>, OutOfMemory>
     ensures spelled { IfOk result (λ found. IfSome found (λ told. line.now ++ codes "\n" ≡ told_line told)) }
-    ensures plain { IfOk result (λ found. IfSome found IsPlain) }
+    ensures readable { IfOk result (λ found. IfSome found IsReadableTold) }
     ensures back { IfOk result (λ found. IsLineBack line.now found) }
 {
     let Some(told) = read_loosely(alloc, line)? else {
         return Ok(None);
     };
-    if is_told(alloc, &told, line)? {
+    if is_printed(alloc, &told, line)? {
         Ok(Some(told))
     } else {
         Ok(None)

@@ -1,6 +1,7 @@
 use Rattle.std.proofs.Common.{List, ℕ, Some, Err, subst, sym}
 use Rattle.std.specs.Io.KnownBytes.{Appends}
-use Rattle.pth_drawing.proofs.Running.{drawn, unfinished}
+use Rattle.pth_drawing.proofs.Results.{answers_error}
+use Rattle.pth_drawing.proofs.Running.{drawn, none, undrawn, unfinished}
 use Rattle.pth_drawing.specs.Draw.{draw}
 use Rattle.pth_drawing.specs.Words.{asked_of}
 use Rattle.pth_filter.specs.Answers.{Ran}
@@ -9,6 +10,15 @@ use Rattle.pth_streams.specs.Inputs.{inputs}
 use Rattle.pth_streams.specs.Pieces.{AppendsPart, received}
 use Rattle.pth_streams.specs.Scene.{scene}
 use Rattle.pth_drawing.proofs.run.write_picture.Goals as goal
+
+pub returns-in_err-text-clause-ran : goal.returns-in_err-text-clause-ran
+returns-in_err-text-clause-ran g c =
+    let ins = inputs (g.S.Source.left c.args.input.now) (g.S.Source.faults c.args.input.now) (g.F.Files.left c.args.files.now) (g.F.Files.held c.args.files.now) (g.F.Files.faults c.args.files.now) in
+    let later = inputs (g.S.Source.left c.read_picture.new.input) (g.S.Source.faults c.read_picture.new.input) (g.F.Files.left c.read_picture.new.files) (g.F.Files.held c.read_picture.new.files) (g.F.Files.faults c.read_picture.new.files) in
+    let out = received (g.O.Sink.written c.args.out.now) (g.O.Sink.faults c.args.out.now) in
+    answers_error (Ran draw (Some (asked_of c.args.choice.now)) (scene ins out) (scene later out)) c.from_residual.result c.in_err-text.field-0.0
+    c.from_residual.ensures.1
+    (undrawn (asked_of c.args.choice.now) ins later out out c.in_err-text.field-0.0 c.in_err-text.ensures.made c.in_err-text.ensures.counts (none out))
 
 pub returns-in-Ok-clause-ran : goal.returns-in-Ok-clause-ran
 returns-in-Ok-clause-ran g c =

@@ -10,7 +10,8 @@ returns-in-len3-2 c = record {
   back = passed_on c.write.result _ _
       (three_words c.args.words.now _ _ _ _ c.in-len3.len_at_least c.in-len3.len_below
       c.eq-then-words-lt4.ensures c.as_slice-then-words-lt4.ensures c.if-eq-2.true)
-      c.write.ensures;
+      c.write.ensures.back;
+  readable = c.write.ensures.readable;
 }
 
 pub returns-in-len4 : goal.returns-in-len4
@@ -18,7 +19,8 @@ returns-in-len4 c = record {
   back = passed_on c.write_ev.result _ _
       (four_words c.args.words.now _ _ _ _ c.in-len4.len_at_least c.in-len4.len_below
       c.eq-then-words-lt5.ensures c.as_slice-then-words-lt5.ensures c.if-eq-3.true)
-      c.write_ev.ensures;
+      c.write_ev.ensures.back;
+  readable = c.write_ev.ensures.readable;
 }
 
 pub returns-in_default : goal.returns-in_default
@@ -33,5 +35,6 @@ returns-in_default c = record {
             w.eq-then-words-lt5.ensures w.as_slice-then-words-lt5.ensures w.if-eq-3.false
         | in_default-via-else-words-lt3+else-words-lt4+else-words-lt5 w ↦ many_words c.args.words.now (grind (arith, nat_tests))
       ])
-      c.script_call.ensures;
+      c.script_call.ensures.back;
+  readable = c.script_call.ensures.readable;
 }
