@@ -1,2 +1,5 @@
 pub mod Accepting
+pub mod Awakenings
 pub mod Cases
+pub mod Claims
+pub mod Passes

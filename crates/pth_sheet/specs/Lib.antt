@@ -1,2 +1,4 @@
 pub mod Outcomes
 pub mod States
+pub mod Events
+pub mod Runs

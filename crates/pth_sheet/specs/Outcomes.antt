@@ -27,6 +27,12 @@ use Rattle.pth_model.specs.State.{State}
 use Rattle.pth_model.specs.Transition.{Transition, Went, controlled, tid}
 use Rattle.pth_sheet.specs.States.{takes_mutex_back}
 
+-- the first of two, if the test holds, and else the second
+infixr 4 ◌when◌otherwise◌
+abbrev pub ◌when◌otherwise◌ : {A : Type 0} → A → Bool → A → A
+x when true otherwise y = x
+x when false otherwise y = y
+
 -- what a call of a thread comes to, from the state before it
 abbrev pub Outcome : Type 0 → Type 0 → Type 0 → Type 0
 Outcome P S H = State P S H → ℕ → Call → Went P S H
@@ -35,12 +41,6 @@ module _ {P S H : Type 0} where
   -- a state, the marks on the way to it, and what comes next
   abbrev pub went : State P S H → List Mark → Next → Went P S H
   went s marks n = record { told = record { state = s; marks = marks }; next = n }
-
-  -- the first outcome, if the test holds, and else the second
-  infixr 4 ◌when◌otherwise◌
-  abbrev pub ◌when◌otherwise◌ : Outcome P S H → Bool → Outcome P S H → Outcome P S H
-  o when true otherwise x = o
-  o when false otherwise x = x
 
   -- the state changes, and then the outcome follows
   infixr 5 ◌then◌

@@ -149,6 +149,7 @@ module _ {P S H : Type 0} where
   abbrev pub mail_becomes : (Mail → Mail) → State P S H → State P S H
   mail_becomes g s = record s { resources = resources.mail_becomes s.resources g }
 
+  -- the ports with their names, and then the messages
   abbrev pub ports_become : (PortNames → PortNames) → (Mail → Mail) → State P S H → State P S H
   ports_become g h s = record s { resources = resources.ports_become s.resources g h }
 

@@ -1,6 +1,6 @@
 //! Event Handling of pth(3): events and event rings, `pth_event_t`. `pth_event` has a statement for each type of event.
 //!
-//! The statements say how an event is created. When it occurs or fails is found by the scheduler: `Looks.antt` of `pth_model`.
+//! The statements say how an event is created. When it occurs or fails is stated in `occurrences.rt`.
 
 ghost use Rattle.std.specs.Prelude.{ℕ, ℤ, not, ◌&&◌, ◌+◌, ◌≡◌, None, Some, ◌||◌, option_map, Bool, if◌then◌else◌};
 ghost use Rattle.pth_base.specs.Descriptors.{descriptor_limit};

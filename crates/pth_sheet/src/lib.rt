@@ -7,7 +7,7 @@
 //! | Thread Control | `threads.rt` |
 //! | Utilities | `utilities.rt` |
 //! | Cancellation Management | `cancellation.rt` |
-//! | Event Handling | `events.rt` |
+//! | Event Handling | `events.rt`; between calls: `occurrences.rt`, `ring_claims.rt` |
 //! | Key-Based Storage | `keys.rt` |
 //! | Message Port Communication | `ports.rt` |
 //! | Thread Cleanups | `cleanups.rt` |
@@ -39,19 +39,23 @@
 //!
 //! - `A ≡ B →` before a statement is a premise: the statement holds if A equals B. `Some x` is a value that is there, `None` is no value.
 //! - `not A`, `A && B`, `A || B` are read as in C. `nat_le x y` is x ≤ y, and `nat_lt x y` is x < y. `pos 1` is the number 1.
+//! - `[]` is the empty list, `x ∷ xs` a list with `x` first, and `xs ++ ys` is `xs` and then `ys`. `option_map g o` is g of the value in `o`,
+//!   if there is one. `record { 0 = n }` is the number `n` of a thread, an event or a message, and `x.0` is the number in `x`.
 //! - Success is `returns 1` (TRUE). `refused E` stands for FALSE, NULL or -1 with `errno` set to E.
 //! - An operand is a number. `number n` is the thread, event or port with number `n`, `object_named m` the mutex, lock, condition or
 //!   barrier, and `fd_named f` the descriptor. `is_zero v` says that `v` is NULL, or FALSE. `made + 1` is the number of a new thing.
 //! - `moment_after now l` is the time `l` after now, `length_of 1 l` a length of `l` microseconds.
 //!
-//! The sheet has one call at a time. Sentences of pth(3) on what happens between calls are restated by other definitions of `pth_model`:
-//! how the scheduler dispatches (`Pass.antt`, `Part.antt`), when a waiting thread is awakened (`Coming.antt`), when an event occurs
-//! (`Looks.antt`), and how a thread terminates (`Ending.antt`).
+//! These statements have one call at a time. Of what happens between calls, `occurrences.rt` states when events occur and which threads are
+//! awakened, and `ring_claims.rt` what becomes of an event ring while a call waits for it. Other sentences of pth(3) are restated by
+//! definitions of `pth_model`: how the scheduler dispatches (`Pass.antt`, `Part.antt`), when a waiting call has what it waits for
+//! (`Coming.antt`), and how a thread terminates (`Ending.antt`). `runs.rt` has runs that the definitions compute.
 //!
-//! The words for outcomes are in `specs/Outcomes.antt`, and those for the parts of a state in `specs/States.antt`.
+//! The words for outcomes are in `specs/Outcomes.antt`, those for the parts of a state in `specs/States.antt`, and those for events in
+//! `specs/Events.antt`.
 //!
-//! The statements are of `begun` and `gone_on` of `pth_model`, which have the whole effect of a call: the state after it, the marks, and
-//! what its thread does next. The row of a call alone has less, since some changes are made by the mark of the answer.
+//! The statements of calls are of `begun` and `gone_on` of `pth_model`, which have the whole effect of a call: the state after it, the
+//! marks, and what its thread does next. The row of a call alone has less, since some changes are made by the mark of the answer.
 #![tactic(auto)]
 
 pub mod attributes;
@@ -65,7 +69,10 @@ pub mod keys;
 pub mod library;
 pub mod lines;
 pub mod mutexes;
+pub mod occurrences;
 pub mod ports;
+pub mod ring_claims;
+pub mod runs;
 pub mod rwlocks;
 pub mod standard_replacements;
 pub mod threads;
