@@ -15,9 +15,8 @@ use Rattle.pth_checker.specs.declared.judge.Judge.{Judge}
 use Rattle.pth_checker.specs.declared.verdict.Law.TheVariants as law
 use Rattle.pth_checker.specs.declared.verdict.Verdict.{Verdict}
 use Rattle.pth_checker.specs.declared.verdict.Verdict.TheVariants.{Lawful, Unlawful}
-use Rattle.pth_streams.specs.Inputs.{AreHeld}
 use Rattle.pth_transcript.specs.Reading.{ComesTo as ReaderComesTo, IsRefused}
-use Rattle.pth_transcript.specs.Transcripts.{BeginsNoLine, BeginsWith, IsTold, IsToldPart, next_line, part_line}
+use Rattle.pth_transcript.specs.Transcripts.{BeginsWith, IsTold, IsToldPart, next_line, part_line}
 use Rattle.pth_filter.specs.Objects.{OtherStays, of_read}
 use Rattle.pth_transcript.specs.Taking.{Ahead, HasMore, IsOver, Takes, ahead}
 use Rattle.pth_transcript.specs.Transcript.{ending_line, marks_of, told_line, told_lines}

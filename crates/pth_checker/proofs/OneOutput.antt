@@ -1,10 +1,9 @@
 -- Each text has one output.
-use Rattle.std.proofs.Common.{◌≡◌, ◌≢◌, ◌∙◌, ◌+◌, ◌⊎◌, ℕ, List, [], ◌∷◌, ◌++◌, Option, Some, None, length, map, ap, sym, refl, subst, inl, inr}
+use Rattle.std.proofs.Common.{◌≡◌, ◌≢◌, ◌∙◌, ◌+◌, ℕ, List, [], ◌∷◌, ◌++◌, Option, Some, None, length, ap, sym, refl, subst, inl, inr}
 use Rattle.pth_audit.proofs.Verdicts.{one_verdict}
 use Rattle.pth_audit.specs.Verdicts.{BreaksFirst, IsBrokenAt, IsLawful}
 use Rattle.pth_audit.specs.declared.verdict.AuditRule.{AuditRule}
 use Rattle.pth_audit.specs.declared.verdict.Verdict.TheVariants.{No, Yes}
-use Rattle.pth_base.specs.declared.ids.Tid.{Tid}
 use Rattle.pth_base.specs.declared.mark.Mark.{Mark}
 use Rattle.pth_base.specs.declared.mark.Mark.TheVariants as mark
 use Rattle.pth_checker.specs.Check.{IsOutput, IsTextOutput, program, verdict_output}

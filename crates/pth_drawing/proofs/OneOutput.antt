@@ -1,5 +1,5 @@
 -- Each text has one output.
-use Rattle.std.proofs.Common.{◌≡◌, ◌≢◌, ◌∙◌, ◌+◌, ◌⊎◌, ℕ, List, [], Option, Some, None, length, ap, sym, refl, subst, inl, inr}
+use Rattle.std.proofs.Common.{◌≡◌, ◌≢◌, ◌∙◌, ◌+◌, ℕ, List, [], Option, Some, None, length, ap, sym, refl, inl, inr}
 use Rattle.pth_drawing.specs.Draw.{IsOutput, IsTextOutput, picture, picture_output, program}
 use Rattle.pth_drawing.specs.Words.{Asked}
 use Rattle.pth_filter.specs.Output.{IsOnly, Output, refusal}

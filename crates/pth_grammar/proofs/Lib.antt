@@ -1,3 +1,4 @@
+pub mod ArgumentLemmas
 pub mod CallLines
 pub mod RowLemmas
 pub mod KernelReadable

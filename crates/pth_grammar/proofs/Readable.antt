@@ -8,7 +8,7 @@ use Rattle.pth_grammar.specs.Forms.{call_forms, act_forms, body_forms, forms_of}
 use Rattle.pth_spelling.specs.Starts.{begins, keyword_in, start_of}
 use Rattle.pth_grammar.specs.LineMeanings.{line_begun, line_by, line_of, act_begun, act_with, act_by, act_of, check_by, check_of}
 use Rattle.pth_grammar.specs.Shapes.{Shape, Unequal, Asks, shape_by_forms, after_register, shape_begun, shape_of, words_break, word_rules, words_fault}
-use Rattle.pth_line.specs.declared.operand.Register.{Register}
+use Rattle.pth_operand.specs.declared.operand.Register.{Register}
 use Rattle.pth_spelling.specs.declared.start.Start.{Start}
 use Rattle.pth_spelling.specs.declared.start.Start.TheVariants as start
 use Rattle.pth_spelling.specs.declared.form.Form.{Form}

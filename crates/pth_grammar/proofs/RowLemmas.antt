@@ -1,18 +1,15 @@
 -- Words that have their forms, one for each, stand for something together.
 use Rattle.std.proofs.Common.{◌≡◌, ℕ, true, List, [], ◌∷◌, Option, Some, None}
 use Rattle.std.specs.Prelude.{is_some, option_and_then, option_map}
-use Rattle.pth_line.specs.declared.operand.Operand.{Operand}
-use Rattle.pth_line.specs.declared.operand.Value.{Value}
-use Rattle.pth_grammar.specs.Reading.{operands_of, act_values, read1, read2, read3, read4, read5}
-use Rattle.pth_grammar.specs.declared.operands.Operands.{Operands}
-use Rattle.pth_grammar.specs.declared.operands.Operands.TheVariants.{Zero, One, Two, Three}
+use Rattle.pth_operand.specs.declared.operand.Value.{Value}
+use Rattle.pth_grammar.specs.Reading.{act_values, read1, read2, read3, read4}
 use Rattle.pth_grammar.specs.declared.acts.Values.{Values}
 use Rattle.pth_grammar.specs.declared.acts.Values.TheVariants as values
-use Rattle.pth_spelling.specs.WordMeanings.{operand_of, value_of}
+use Rattle.pth_spelling.specs.WordMeanings.{value_of}
 use Rattle.pth_spelling.specs.declared.form.Form.{Form}
 use Rattle.pth_spelling.specs.declared.form.Form.TheVariants as form
 use Rattle.pth_spelling.proofs.Options.{some_map, some_then}
-use Rattle.pth_spelling.proofs.Fine.{AllFine, Reads, operand, value}
+use Rattle.pth_spelling.proofs.Fine.{AllFine, Reads, value}
 
 -- ---- options
 
@@ -42,38 +39,6 @@ row3 {a = a} r s t build (w ∷ ws) h = some_then (a w) _ (r.reads w h.0) (λ x.
 pub row4 : {A B C D R : Type 0} {f g i j : Form} {a : List ℕ → Option A} {b : List ℕ → Option B} {c : List ℕ → Option C} {d : List ℕ → Option D} → Reads f a → Reads g b → Reads i c → Reads j d → (build : A → B → C → D → R) (ws : List (List ℕ)) → AllFine (f ∷ g ∷ i ∷ j ∷ []) ws → is_some (read4 a b c d build ws) ≡ true
 row4 r s t u build [] h = absurd h
 row4 {a = a} r s t u build (w ∷ ws) h = some_then (a w) _ (r.reads w h.0) (λ x. row3 s t u (build x) ws h.1)
-
-pub row5 : {A B C D E R : Type 0} {f g i j k : Form} {a : List ℕ → Option A} {b : List ℕ → Option B} {c : List ℕ → Option C} {d : List ℕ → Option D} {e : List ℕ → Option E} → Reads f a → Reads g b → Reads i c → Reads j d → Reads k e → (build : A → B → C → D → E → R) (ws : List (List ℕ)) → AllFine (f ∷ g ∷ i ∷ j ∷ k ∷ []) ws → is_some (read5 a b c d e build ws) ≡ true
-row5 r s t u v build [] h = absurd h
-row5 {a = a} r s t u v build (w ∷ ws) h = some_then (a w) _ (r.reads w h.0) (λ x. row4 s t u v (build x) ws h.1)
-
--- ---- lines of numbers
-
-pub numbers0 : {R : Type 0} (f : Operands → Option R) (ws : List (List ℕ)) → is_some (f Zero) ≡ true → AllFine [] ws → is_some (option_and_then f (operands_of ws)) ≡ true
-unfolding operands_of
-numbers0 f [] some h = some
-numbers0 f (w ∷ ws) some h = absurd h
-
-pub numbers1 : {R : Type 0} (f : Operands → Option R) (ws : List (List ℕ)) → ((x : Operand) → is_some (f (One x)) ≡ true) → AllFine (form.Operand ∷ []) ws → is_some (option_and_then f (operands_of ws)) ≡ true
-unfolding operands_of
-numbers1 f [] some h = absurd h
-numbers1 f (a ∷ []) some h = then_map (operand_of a) (λ x. One x) f (operand.reads a h.0) some
-numbers1 f (a ∷ b ∷ ws) some h = absurd h.1
-
-pub numbers2 : {R : Type 0} (f : Operands → Option R) (ws : List (List ℕ)) → ((x y : Operand) → is_some (f (Two x y)) ≡ true) → AllFine (form.Operand ∷ form.Operand ∷ []) ws → is_some (option_and_then f (operands_of ws)) ≡ true
-unfolding operands_of
-numbers2 f [] some h = absurd h
-numbers2 f (a ∷ []) some h = absurd h.1
-numbers2 f (a ∷ b ∷ []) some h = then_then (operand_of a) _ f (operand.reads a h.0) (λ x. then_map (operand_of b) (λ y. Two x y) f (operand.reads b h.1.0) (some x))
-numbers2 f (a ∷ b ∷ c ∷ ws) some h = absurd h.1.1
-
-pub numbers3 : {R : Type 0} (f : Operands → Option R) (ws : List (List ℕ)) → ((x y z : Operand) → is_some (f (Three x y z)) ≡ true) → AllFine (form.Operand ∷ form.Operand ∷ form.Operand ∷ []) ws → is_some (option_and_then f (operands_of ws)) ≡ true
-unfolding operands_of
-numbers3 f [] some h = absurd h
-numbers3 f (a ∷ []) some h = absurd h.1
-numbers3 f (a ∷ b ∷ []) some h = absurd h.1.1
-numbers3 f (a ∷ b ∷ c ∷ []) some h = then_then (operand_of a) _ f (operand.reads a h.0) (λ x. then_then (operand_of b) _ f (operand.reads b h.1.0) (λ y. then_map (operand_of c) (λ z. Three x y z) f (operand.reads c h.1.1.0) (some x y)))
-numbers3 f (a ∷ b ∷ c ∷ d ∷ ws) some h = absurd h.1.1.1
 
 -- ---- acts of values
 

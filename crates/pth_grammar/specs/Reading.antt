@@ -1,10 +1,8 @@
 -- Words that have their forms, one for each: what they stand for together.
 use Rattle.std.specs.Prelude.{ℕ, List, [], ◌∷◌, Option, Some, None, option_and_then, option_map}
-use Rattle.pth_grammar.specs.declared.operands.Operands.{Operands}
-use Rattle.pth_grammar.specs.declared.operands.Operands.TheVariants.{Zero, One, Two, Three}
 use Rattle.pth_grammar.specs.declared.acts.Values.{Values}
 use Rattle.pth_grammar.specs.declared.acts.Values.TheVariants as values
-use Rattle.pth_spelling.specs.WordMeanings.{operand_of, value_of}
+use Rattle.pth_spelling.specs.WordMeanings.{value_of}
 
 abbrev pub read1 : {A R : Type 0} → (List ℕ → Option A) → (A → R) → List (List ℕ) → Option R
 read1 f build (a ∷ []) = option_map build (f a)
@@ -21,18 +19,6 @@ read3 f g h build (a ∷ ws) = option_and_then (λ x. read2 g h (build x) ws) (f
 abbrev pub read4 : {A B C D R : Type 0} → (List ℕ → Option A) → (List ℕ → Option B) → (List ℕ → Option C) → (List ℕ → Option D) → (A → B → C → D → R) → List (List ℕ) → Option R
 read4 f g h k build [] = None
 read4 f g h k build (a ∷ ws) = option_and_then (λ x. read3 g h k (build x) ws) (f a)
-
-abbrev pub read5 : {A B C D E R : Type 0} → (List ℕ → Option A) → (List ℕ → Option B) → (List ℕ → Option C) → (List ℕ → Option D) → (List ℕ → Option E) → (A → B → C → D → E → R) → List (List ℕ) → Option R
-read5 f g h k l build [] = None
-read5 f g h k l build (a ∷ ws) = option_and_then (λ x. read4 g h k l (build x) ws) (f a)
-
--- the numbers of at most three words, where each is one
-unfoldable pub operands_of : List (List ℕ) → Option Operands
-operands_of [] = Some Zero
-operands_of (a ∷ []) = option_map (λ x. One x) (operand_of a)
-operands_of (a ∷ b ∷ []) = option_and_then (λ x. option_map (λ y. Two x y) (operand_of b)) (operand_of a)
-operands_of (a ∷ b ∷ c ∷ []) = option_and_then (λ x. option_and_then (λ y. option_map (λ z. Three x y z) (operand_of c)) (operand_of b)) (operand_of a)
-operands_of (a ∷ b ∷ c ∷ d ∷ ws) = None
 
 -- the values of one word or two, where each is one
 unfoldable pub act_values : List (List ℕ) → Option Values

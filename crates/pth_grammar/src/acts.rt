@@ -7,7 +7,7 @@ ghost use Rattle.pth_spelling.specs.Texts.{texts};
 ghost use Rattle.pth_spelling.specs.declared.keyword.Keyword.TheVariants as key;
 
 use pth_line::act_line::ActLine;
-use pth_line::operand::Value;
+use pth_operand::operand::Value;
 use pth_spelling::keyword::Keyword;
 use pth_spelling::words::{shared, value};
 

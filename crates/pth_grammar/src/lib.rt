@@ -8,30 +8,15 @@
 #![tactic(auto)]
 
 mod acts;
-mod attribute_line;
-mod barrier_line;
+mod arguments;
 mod call_line;
-mod cancellation_line;
-mod cleanup_line;
-mod condition_line;
-mod event_line;
 pub mod fault;
 mod forms;
-mod io_line;
 pub mod kernel_forms;
 pub mod kernel_lines;
 mod kernel_numbers;
 pub mod kernel_part;
-mod key_line;
 pub mod laws;
-mod library_line;
 pub mod lines;
-mod mutex_line;
-mod new_event;
-mod operands;
-mod port_line;
-mod rwlock_line;
 pub mod section;
 mod shape;
-mod thread_line;
-mod utility_line;

@@ -15,7 +15,7 @@ use pth_base::memory::OutOfMemory;
 use pth_line::act_line::ActLine;
 use pth_line::check::Check;
 use pth_line::line::Line;
-use pth_line::operand::{Operand, Register};
+use pth_operand::operand::{Operand, Register};
 use pth_spelling::keyword::{CallWord, Keyword};
 use pth_spelling::start::Start;
 use pth_spelling::words::{natural, operand, register, relation, value};

@@ -1,6 +1,5 @@
-pub mod Relations
-pub mod Values
-pub mod LineCalls
-pub mod LastAnswer
+pub mod CallOf
+pub mod CallLines
+pub mod Placed
 pub mod LineSteps
 pub mod Script

@@ -5,15 +5,15 @@ use Rattle.pth_base.specs.Program.{Stepped}
 use Rattle.pth_base.specs.declared.answer.Answer.{Answer}
 use Rattle.pth_base.specs.declared.call.Call.{Call}
 use Rattle.pth_base.specs.declared.call.Call.TheVariants as call
-use Rattle.pth_line.specs.LastAnswer.{heard}
-use Rattle.pth_line.specs.LineCalls.{call_in}
-use Rattle.pth_line.specs.Relations.{holds_between}
-use Rattle.pth_line.specs.Values.{Scope, scope, register_in, put_register, operand_in}
-use Rattle.pth_line.specs.declared.cells.Cells.{Cells}
-use Rattle.pth_line.specs.declared.frame.Frame.{Frame}
-use Rattle.pth_line.specs.declared.frame.Owed.TheVariants as owed
+use Rattle.pth_operand.specs.LastAnswer.{heard}
+use Rattle.pth_line.specs.CallLines.{call_in}
+use Rattle.pth_operand.specs.Relations.{holds_between}
+use Rattle.pth_operand.specs.Values.{Scope, scope, register_in, put_register, operand_in}
+use Rattle.pth_operand.specs.declared.cells.Cells.{Cells}
+use Rattle.pth_operand.specs.declared.frame.Frame.{Frame}
+use Rattle.pth_operand.specs.declared.frame.Owed.TheVariants as owed
 use Rattle.pth_line.specs.declared.line.Line.{Line}
-use Rattle.pth_line.specs.declared.operand.Register.{Register}
+use Rattle.pth_operand.specs.declared.operand.Register.{Register}
 use Rattle.pth_line.specs.declared.line.Line.TheVariants as line
 
 -- the thread goes to a line

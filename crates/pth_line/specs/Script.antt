@@ -3,15 +3,15 @@ use Rattle.std.specs.Prelude.{ℕ, ℤ, pos, List, [], length, Option, Some, Non
 use Rattle.pth_base.specs.Program.{Functions, Acted}
 use Rattle.pth_base.specs.declared.act.Act.{Act}
 use Rattle.pth_base.specs.declared.act.Act.TheVariants as act
-use Rattle.pth_line.specs.Relations.{holds_between}
+use Rattle.pth_operand.specs.Relations.{holds_between}
 use Rattle.pth_line.specs.LineSteps.{stepped}
-use Rattle.pth_line.specs.Values.{value_in}
+use Rattle.pth_operand.specs.Values.{value_in}
 use Rattle.pth_line.specs.declared.act_line.ActLine.{ActLine}
 use Rattle.pth_line.specs.declared.act_line.ActLine.TheVariants as line
-use Rattle.pth_line.specs.declared.cells.Cells.{Cells}
+use Rattle.pth_operand.specs.declared.cells.Cells.{Cells}
 use Rattle.pth_line.specs.declared.check.Check.{Check}
-use Rattle.pth_line.specs.declared.frame.Frame.{Frame}
-use Rattle.pth_line.specs.declared.frame.Owed.TheVariants as owed
+use Rattle.pth_operand.specs.declared.frame.Frame.{Frame}
+use Rattle.pth_operand.specs.declared.frame.Owed.TheVariants as owed
 use Rattle.pth_line.specs.declared.line.Line.{Line}
 
 -- the sections of a script

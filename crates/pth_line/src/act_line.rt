@@ -2,9 +2,9 @@
 
 ghost use Rattle.std.specs.Prelude.{◌≡◌};
 
-use crate::cells::Cells;
-use crate::operand::Value;
 use pth_base::act::Act;
+use pth_operand::cells::Cells;
+use pth_operand::operand::Value;
 
 /// An act of a handler as it is written.
 #[derive(Clone, Copy)]

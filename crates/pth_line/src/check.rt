@@ -1,12 +1,12 @@
 //! Checks.
 
 ghost use Rattle.std.specs.Prelude.{◌≡◌};
-ghost use Rattle.pth_line.specs.Relations.{holds_between};
-ghost use Rattle.pth_line.specs.Values.{value_in};
+ghost use Rattle.pth_operand.specs.Relations.{holds_between};
+ghost use Rattle.pth_operand.specs.Values.{value_in};
 
-use crate::cells::Cells;
-use crate::operand::Value;
-use crate::relation::Relation;
+use pth_operand::cells::Cells;
+use pth_operand::operand::Value;
+use pth_operand::relation::Relation;
 
 /// What a function event asks (`PTH_EVENT_FUNC`): whether a relation holds between two numbers.
 #[derive(Clone, Copy)]

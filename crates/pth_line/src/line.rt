@@ -3,12 +3,13 @@
 ghost use Rattle.std.specs.Prelude.{◌≡◌, ◌+◌, ◌<◌, ◌^◌, IfOk};
 
 use crate::call_line::CallLine;
-use crate::cells::Cells;
-use crate::frame::{Frame, Owed};
-use crate::operand::{Operand, Register};
-use crate::relation::Relation;
 use pth_base::call::Call;
 use pth_base::memory::OutOfMemory;
+use pth_operand::cells::Cells;
+use pth_operand::frame::{Frame, Owed};
+use pth_operand::operand::{Operand, Register};
+use pth_operand::relation::Relation;
+use std::alloc::Global;
 
 /// A line of a body.
 ///
@@ -40,10 +41,16 @@ pub enum Line {
 
 impl Line {
     ghost use Rattle.pth_line.specs.LineSteps.{does, at_next_line};
-    ghost use Rattle.pth_line.specs.Values.{scope};
+    ghost use Rattle.pth_operand.specs.Values.{scope};
 
     /// Does what the line says in a thread that stands at it, and gives the call that it makes.
-    pub(crate) fn does(&self, frame: &mut Frame, cells: &mut Cells) -> Result<Call, OutOfMemory>
+    #[inline(always)]
+    pub(crate) fn does(
+        &self,
+        alloc: Global,
+        frame: &mut Frame,
+        cells: &mut Cells,
+    ) -> Result<Call, OutOfMemory>
         requires { frame.old.line + 1 < 2 ^ 64 }
         ensures { IfOk result (λ call. record { call = call; state = frame.new; shared = cells.new } ≡ does self.now (at_next_line (scope frame.old cells.old))) }
     {
@@ -74,7 +81,7 @@ impl Line {
                 Ok(Call::Plain)
             }
             Line::Call { answer, call } => {
-                let call = call.call(frame, cells)?;
+                let call = call.call(alloc, frame, cells)?;
                 frame.owed = Owed::Answer(*answer);
                 Ok(call)
             }

@@ -5,9 +5,7 @@ ghost use Rattle.std.specs.Option.{option_copied};
 
 use crate::act_line::ActLine;
 use crate::block::Block;
-use crate::cells::Cells;
 use crate::check::Check;
-use crate::frame::{Frame, Owed};
 use crate::line::Line;
 use pth_base::act::Act;
 use pth_base::answer::Answer;
@@ -16,6 +14,8 @@ use pth_base::call::Call;
 use pth_base::ids::{BodyId, CheckId, HandlerId};
 use pth_base::memory::OutOfMemory;
 use pth_base::program::Program;
+use pth_operand::cells::Cells;
+use pth_operand::frame::{Frame, Owed};
 use std::alloc::Global;
 use std::marker::Model;
 
@@ -128,14 +128,14 @@ impl Program for Script {
 
     fn step(
         &self,
-        _alloc: Global,
+        alloc: Global,
         state: &mut Frame,
         shared: &mut Cells,
         answer: &Answer,
     ) -> Result<Call, OutOfMemory> {
         state.hear(shared, answer)?;
         match self.line(state) {
-            Some(line) => line.does(state, shared),
+            Some(line) => line.does(alloc, state, shared),
             None => Ok(Call::Exit(0)),
         }
     }

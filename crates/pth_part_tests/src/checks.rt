@@ -3,8 +3,8 @@
 use crate::comparison::same_text;
 use pth_base::ids::CheckId;
 use pth_base::program::Program;
-use pth_line::cells::Cells;
 use pth_line::script::Script;
+use pth_operand::cells::Cells;
 use pth_script::read::read;
 use std::alloc::{AllocError, Global};
 use std::test::Fail;

@@ -1,3 +1,4 @@
 pub mod Cuts
 pub mod Threads
 pub mod Members
+pub mod Made

@@ -7,8 +7,8 @@ use Rattle.pth_base.specs.declared.thread.ThreadState.TheVariants.{New, Ready, R
 use Rattle.pth_spelling.specs.Syntax.{new_event_syntax}
 use Rattle.pth_spelling.specs.declared.keyword.QueryWord.{QueryWord}
 use Rattle.pth_spelling.specs.declared.keyword.QueryWord.TheVariants as queries
-use Rattle.pth_print.specs.Args.{Arg}
-use Rattle.pth_print.specs.Args as arg
+use Rattle.pth_spelling.specs.Args.{Arg}
+use Rattle.pth_spelling.specs.Args as arg
 use Rattle.pth_print.specs.Sets.{set_word}
 use Rattle.pth_print.specs.WordTexts.{hex_word, number_word}
 

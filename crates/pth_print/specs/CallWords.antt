@@ -4,7 +4,7 @@ use Rattle.pth_base.specs.declared.call.Call.{Call}
 use Rattle.pth_base.specs.declared.call.Call.TheVariants as call
 use Rattle.pth_spelling.specs.Syntax.{syntax_of}
 use Rattle.pth_print.specs.ArgWords.{arg_word}
-use Rattle.pth_print.specs.Args.{Arg}
+use Rattle.pth_spelling.specs.Args.{Arg}
 use Rattle.pth_print.specs.Parts.{Parts, parts_of}
 use Rattle.pth_print.specs.WordTexts.{number_word}
 

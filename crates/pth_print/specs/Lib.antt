@@ -2,8 +2,9 @@ pub mod Adding
 pub mod SpacedWords
 pub mod WordTexts
 pub mod Sets
-pub mod Args
+pub use Rattle.pth_spelling.specs.Args
 pub mod Parts
+pub mod Made
 pub mod ArgWords
 pub mod CallWords
 pub mod AnswerWords

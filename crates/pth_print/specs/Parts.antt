@@ -28,8 +28,8 @@ use Rattle.pth_spelling.specs.declared.keyword.CallWord.TheVariants as calls
 use Rattle.pth_spelling.specs.declared.keyword.NewEventWord.TheVariants as new_events
 use Rattle.pth_spelling.specs.declared.keyword.QueryWord.{QueryWord}
 use Rattle.pth_spelling.specs.declared.keyword.QueryWord.TheVariants as queries
-use Rattle.pth_print.specs.Args.{Arg}
-use Rattle.pth_print.specs.Args as arg
+use Rattle.pth_spelling.specs.Args.{Arg}
+use Rattle.pth_spelling.specs.Args as arg
 
 pub record Parts : Type 0 where
   pub word : CallWord

@@ -10,6 +10,7 @@ mod call;
 mod call_parts;
 pub mod end_line;
 pub mod fault_line;
+pub mod laws;
 pub mod mark_line;
 mod mark_shape;
 mod operand_word;

@@ -2,7 +2,7 @@
 
 ghost use Rattle.std.specs.Prelude.{◌≡◌};
 ghost use Rattle.pth_spelling.specs.Syntax.{new_event_syntax};
-ghost use Rattle.pth_print.specs.Args as arg;
+ghost use Rattle.pth_spelling.specs.Args as arg;
 ghost use Rattle.pth_print.specs.ArgWords.{arg_word, field_word, goals_word, mode_word, query_word, state_word, walk_word, which_word};
 ghost use Rattle.pth_print.specs.Parts.{asked};
 ghost use Rattle.pth_print.specs.WordTexts.{word_text};

@@ -7,7 +7,7 @@ use Rattle.pth_spelling.specs.Starts.{begins, keyword_in, start_of}
 use Rattle.pth_grammar.specs.LineMeanings.{numbered, line_begun, line_of, line_by, plain_line, act_begun, act_of, act_by}
 use Rattle.pth_grammar.specs.Reading.{read1, read2, read3}
 use Rattle.pth_spelling.specs.WordMeanings.{natural_of, operand_of, relation_of}
-use Rattle.pth_line.specs.declared.operand.Register.{Register}
+use Rattle.pth_operand.specs.declared.operand.Register.{Register}
 use Rattle.pth_spelling.specs.declared.keyword.CallWord.{CallWord}
 use Rattle.pth_spelling.specs.declared.keyword.Keyword.{Keyword}
 use Rattle.pth_spelling.specs.declared.start.Start.{Start}

@@ -6,8 +6,8 @@ use Rattle.pth_base.specs.declared.mark.Mark.TheVariants.{Moved}
 use Rattle.pth_base.specs.declared.outcome.Outcome.TheVariants.{Running}
 use Rattle.pth_kernel.specs.Kernel.{Kernel}
 use Rattle.pth_line.specs.Script.{Sections, functions_of}
-use Rattle.pth_line.specs.declared.cells.Cells.{Cells}
-use Rattle.pth_line.specs.declared.frame.Frame.{Frame}
+use Rattle.pth_operand.specs.declared.cells.Cells.{Cells}
+use Rattle.pth_operand.specs.declared.frame.Frame.{Frame}
 use Rattle.pth_model.specs.Course.{Course}
 use Rattle.pth_model.specs.Changes.{moves_to, sets, leaves_queue, trails}
 use Rattle.pth_model.specs.Part.{Part, Move, Take, Step, Close, Halt, next_part, part, part_by, moves, moves_by, takes, takes_by, readies_new, dispatches, runs, steps, closes, turn_ends}

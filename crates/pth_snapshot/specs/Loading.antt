@@ -3,8 +3,8 @@ use Rattle.std.specs.Prelude.{◌≡◌, ◌≢◌, ◌⊎◌, ◌<◌, ◌+◌,
 use Rattle.pth_base.specs.Program.{Functions}
 use Rattle.pth_kernel.specs.Kernel.{KernelOf, kernel_of}
 use Rattle.pth_line.specs.Script.{Sections, functions_of}
-use Rattle.pth_line.specs.declared.cells.Cells.{Cells}
-use Rattle.pth_line.specs.declared.frame.Frame.{Frame}
+use Rattle.pth_operand.specs.declared.cells.Cells.{Cells}
+use Rattle.pth_operand.specs.declared.frame.Frame.{Frame}
 use Rattle.pth_model.specs.Run.{run}
 use Rattle.pth_model.specs.State.{Given}
 use Rattle.pth_sched.specs.MachineOf.{MachineOf}

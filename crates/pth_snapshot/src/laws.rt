@@ -3,8 +3,8 @@
 ghost use Rattle.std.specs.Prelude.{◌≡◌, ◌⊎◌, ◌≤◌, ℕ, List, Result, Ok};
 ghost use Rattle.pth_base.specs.Limits.{last_moment, most_steps};
 ghost use Rattle.pth_line.specs.Script.{Sections, functions_of};
-ghost use Rattle.pth_line.specs.declared.cells.Cells.{Cells};
-ghost use Rattle.pth_line.specs.declared.frame.Frame.{Frame};
+ghost use Rattle.pth_operand.specs.declared.cells.Cells.{Cells};
+ghost use Rattle.pth_operand.specs.declared.frame.Frame.{Frame};
 ghost use Rattle.pth_model.specs.Course.{Course};
 ghost use Rattle.pth_model.specs.Run.{run};
 ghost use Rattle.pth_model.specs.State.{Given};

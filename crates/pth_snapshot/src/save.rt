@@ -2,8 +2,8 @@
 
 ghost use Rattle.std.specs.Prelude.{◌≡◌, ◌+◌, ◌<◌, ◌^◌, ◌++◌, length, IfOk};
 ghost use Rattle.pth_line.specs.Script.{Sections};
-ghost use Rattle.pth_line.specs.declared.cells.Cells.{Cells};
-ghost use Rattle.pth_line.specs.declared.frame.Frame.{Frame};
+ghost use Rattle.pth_operand.specs.declared.cells.Cells.{Cells};
+ghost use Rattle.pth_operand.specs.declared.frame.Frame.{Frame};
 ghost use Rattle.pth_model.specs.Course.{Course};
 ghost use Rattle.pth_sched.specs.Running.{Stands};
 ghost use Rattle.pth_snapshot.specs.Dump.{dump};

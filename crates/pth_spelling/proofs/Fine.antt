@@ -2,7 +2,7 @@
 use Rattle.std.proofs.Common.{◌≡◌, ℕ, Bool, true, false, not, ◌||◌, List, [], ◌∷◌, Option, Some, None, refl}
 use Rattle.std.specs.Prelude.{is_some, option_and_then, option_map, codes, drop, if◌then◌else◌}
 use Rattle.std.specs.Str.{bytes_eq}
-use Rattle.pth_line.specs.declared.operand.ByteOperand.TheVariants as bytes
+use Rattle.pth_operand.specs.declared.operand.ByteOperand.TheVariants as bytes
 use Rattle.pth_text.specs.Hex.{hex_bytes}
 use Rattle.pth_text.specs.Number.{numeral_value}
 use Rattle.pth_text.specs.declared.rule.Rule.TheVariants as rule

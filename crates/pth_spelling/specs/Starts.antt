@@ -1,6 +1,6 @@
 -- How lines begin.
 use Rattle.std.specs.Prelude.{ℕ, List, [], ◌∷◌, Option, Some, None}
-use Rattle.pth_line.specs.declared.operand.Register.{Register}
+use Rattle.pth_operand.specs.declared.operand.Register.{Register}
 use Rattle.pth_spelling.specs.Keywords.{call_word, keyword_of}
 use Rattle.pth_spelling.specs.WordMeanings.{register_of}
 use Rattle.pth_spelling.specs.declared.keyword.CallWord.{CallWord}

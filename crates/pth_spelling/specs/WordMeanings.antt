@@ -13,19 +13,19 @@ use Rattle.pth_base.specs.declared.thread.ThreadState.TheVariants as state
 use Rattle.pth_text.specs.Bytes.{code}
 use Rattle.pth_text.specs.Number.{numeral_value}
 use Rattle.pth_text.specs.Hex.{hex_bytes}
-use Rattle.pth_line.specs.declared.operand.ByteOperand.{ByteOperand}
-use Rattle.pth_line.specs.declared.operand.ByteOperand.TheVariants as bytes
-use Rattle.pth_line.specs.declared.operand.Operand.{Operand}
-use Rattle.pth_line.specs.declared.operand.Operand.TheVariants as operand
-use Rattle.pth_line.specs.declared.operand.Register.{Register}
-use Rattle.pth_line.specs.declared.operand.Register.TheVariants as reg
-use Rattle.pth_line.specs.declared.operand.Value.{Value}
-use Rattle.pth_line.specs.declared.operand.Value.TheVariants as value
-use Rattle.pth_line.specs.declared.relation.Relation.{Relation}
+use Rattle.pth_operand.specs.declared.operand.ByteOperand.{ByteOperand}
+use Rattle.pth_operand.specs.declared.operand.ByteOperand.TheVariants as bytes
+use Rattle.pth_operand.specs.declared.operand.Operand.{Operand}
+use Rattle.pth_operand.specs.declared.operand.Operand.TheVariants as operand
+use Rattle.pth_operand.specs.declared.operand.Register.{Register}
+use Rattle.pth_operand.specs.declared.operand.Register.TheVariants as reg
+use Rattle.pth_operand.specs.declared.operand.Value.{Value}
+use Rattle.pth_operand.specs.declared.operand.Value.TheVariants as value
+use Rattle.pth_operand.specs.declared.relation.Relation.{Relation}
 use Rattle.pth_spelling.specs.declared.direction.Direction.{Direction}
 use Rattle.pth_spelling.specs.declared.keyword.QueryWord.{QueryWord}
 use Rattle.pth_spelling.specs.declared.keyword.QueryWord.TheVariants as query
-use Rattle.pth_line.specs.declared.relation.Relation.TheVariants as rel
+use Rattle.pth_operand.specs.declared.relation.Relation.TheVariants as rel
 
 -- ---- numbers
 

@@ -7,7 +7,7 @@ ghost use Rattle.pth_spelling.specs.Texts.{texts};
 use crate::first_word::{call_word, keyword};
 use crate::keyword::{CallWord, Keyword};
 use crate::words::register;
-use pth_line::operand::Register;
+use pth_operand::operand::Register;
 
 /// How a line begins.
 #[derive(Clone, Copy)]

@@ -1,5 +1,5 @@
 -- Lines at the front of a text.
-use Rattle.std.proofs.Common.{◌≡◌, ◌∙◌, ◌<◌, ◌+◌, ◌==◌, ℕ, suc, true, false, List, [], ◌∷◌, ◌++◌, length, length-append, get_or, codes, ap, sym, refl, append_assoc, arith}
+use Rattle.std.proofs.Common.{◌≡◌, ◌∙◌, ◌+◌, ◌==◌, ℕ, suc, true, false, List, ◌∷◌, ◌++◌, length, length-append, get_or, codes, ap, sym, refl, append_assoc, arith}
 use Rattle.std.specs.List.{slice_split}
 use Rattle.std.proofs.Math.Seq.{get_or-append_seam}
 use Rattle.std.proofs.lemmas.Bool.{false≢true}

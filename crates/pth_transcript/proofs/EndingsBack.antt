@@ -1,5 +1,5 @@
 -- The words of an ending are read as that ending.
-use Rattle.std.proofs.Common.{◌≡◌, ◌∙◌, ◌+◌, add-one, ◌<◌, ◌^◌, ◌==◌, ◌++◌, ℕ, Bool, true, false, List, [], ◌∷◌, map, length, get_or, take, drop, decimal, zero, suc, nat_lt, codes, Option, Some, None, All, refl, sym, ap, subst, arith}
+use Rattle.std.proofs.Common.{◌≡◌, ◌∙◌, ◌+◌, add-one, ◌<◌, ◌^◌, ◌++◌, ℕ, Bool, true, false, List, [], ◌∷◌, map, length, get_or, take, drop, decimal, zero, suc, nat_lt, codes, Option, Some, None, All, refl, sym, ap, subst, arith}
 use Rattle.std.specs.Prelude.{option_map, IsSomeAnd, IsTrue}
 use Rattle.std.specs.Str.{bytes_eq}
 use Rattle.std.proofs.lemmas.Bool.{false≢true}

@@ -7,6 +7,7 @@ pub mod SetsBack
 pub mod WordsBack
 pub mod FirstWords
 pub mod Scripted
+pub mod Spelled
 pub mod CallsBack
 pub mod OwnBack
 pub mod Passing
@@ -27,4 +28,5 @@ pub mod ReadValues
 pub mod ReadAnswers
 pub mod ReadMarks
 pub mod ReadWords
+pub mod MadeReadable
 pub mod ReadCalls

@@ -1,5 +1,5 @@
 -- A line that was found among bytes.
-use Rattle.std.proofs.Common.{◌≡◌, ◌∙◌, ℕ, ◌+◌, ◌-◌, ◌<◌, ◌≤◌, ◌==◌, Bool, true, false, cond, List, [], ◌∷◌, take, subst, All, ◌++◌, length, drop, get_or, codes, option_map, unwrap_or, Option, Some, None, ap, sym, refl, append_assoc, arith}
+use Rattle.std.proofs.Common.{◌≡◌, ◌∙◌, ℕ, ◌+◌, ◌-◌, ◌<◌, ◌≤◌, ◌==◌, Bool, true, false, cond, List, [], ◌∷◌, take, subst, ◌++◌, length, drop, get_or, codes, option_map, unwrap_or, Option, Some, None, ap, sym, refl, append_assoc, arith}
 use Rattle.std.specs.List.{position, position_from, slice_range}
 use Rattle.std.proofs.lemmas.Bool.{eqb-true}
 use Rattle.std.proofs.lemmas.List.{drop_more, get_or-drop, length-drop}

@@ -1,9 +1,9 @@
 -- Whoever reads a text line by line stops at one place.
-use Rattle.std.proofs.Common.{◌≡◌, ◌∙◌, ◌+◌, ◌<◌, ◌^◌, ◌⊎◌, ℕ, suc, List, [], ◌∷◌, ◌++◌, All, length, length-append, ap, sym, refl, subst, append_assoc, arith, inl, inr}
+use Rattle.std.proofs.Common.{◌≡◌, ◌∙◌, ◌+◌, ◌<◌, ◌^◌, ◌⊎◌, ℕ, List, [], ◌∷◌, ◌++◌, All, length, length-append, ap, sym, refl, append_assoc, arith, inl, inr}
 use Rattle.std.proofs.lemmas.List.{length-map}
 use Rattle.std.proofs.lemmas.List.Elements.{All-head, All-tail}
 use Rattle.pth_base.specs.declared.mark.Mark.{Mark}
-use Rattle.pth_transcript.specs.ReadableMarks.{IsReadableEnding, IsReadableTold, TellsSame}
+use Rattle.pth_transcript.specs.ReadableMarks.{TellsSame}
 use Rattle.pth_transcript.specs.Transcript.{ending_line, marks_of, told_line, told_lines}
 use Rattle.pth_transcript.specs.Transcripts.{Begins, BeginsNoLine, BeginsWith, IsTold}
 use Rattle.pth_transcript.specs.declared.ending.Ending.{Ending}

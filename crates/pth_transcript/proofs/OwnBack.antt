@@ -9,7 +9,7 @@ use Rattle.pth_base.specs.declared.call.Call.TheVariants as call
 use Rattle.pth_line.specs.declared.call_line.CallLine.{CallLine}
 use Rattle.pth_line.specs.declared.line.Line.{Line}
 use Rattle.pth_line.specs.declared.line.Line.TheVariants as body
-use Rattle.pth_line.specs.declared.operand.Register.{Register}
+use Rattle.pth_operand.specs.declared.operand.Register.{Register}
 use Rattle.pth_text.specs.Number.{numeral_value}
 use Rattle.pth_text.proofs.Numbers.{written_number_is_read}
 use Rattle.pth_print.specs.CallWords.{call_words}

@@ -1,5 +1,5 @@
 -- What is read of a mark or of an ending is one that lines can spell.
-use Rattle.std.proofs.Common.{◌≡◌, ◌<◌, ◌^◌, ℕ, Bool, true, false, List, [], ◌∷◌, codes, Option, Some, None, refl, sym, subst}
+use Rattle.std.proofs.Common.{◌≡◌, ℕ, Bool, true, false, List, [], ◌∷◌, codes, Option, Some, None, refl, sym, subst}
 use Rattle.std.specs.Prelude.{IfSome, option_and_then, option_map}
 use Rattle.std.specs.Str.{bytes_eq}
 use Rattle.pth_base.specs.declared.answer.Answer.{Answer}
@@ -16,7 +16,6 @@ use Rattle.pth_transcript.specs.ReadableAnswers.{IsReadableAnswer}
 use Rattle.pth_transcript.specs.ReadableMarks.{IsReadableTid, IsReadableAudit, IsReadableMark, IsReadableTold, IsReadableEnding}
 use Rattle.pth_transcript.specs.declared.act.Acted.{Acted}
 use Rattle.pth_transcript.specs.declared.ending.Ending.TheVariants as ending
-use Rattle.pth_transcript.specs.declared.told.Told.{Told}
 use Rattle.pth_transcript.proofs.ReadValues.{mapped, chained, tested, natural_fits, index_fits, object_fits, thread_fits, number_fits}
 
 -- ---- lines that do not begin with a thread

@@ -1,19 +1,18 @@
 -- What the words of a call stand for is what words can spell.
-use Rattle.std.proofs.Common.{◌≡◌, ◌≢◌, ◌<◌, ◌≤◌, ◌^◌, ◌&&◌, nat_le, ℕ, ℤ, Bool, true, cond, List, [], ◌∷◌, drop, codes, Option, Some, None, is_some, w64, FitsSigned, All, refl, arith}
+use Rattle.std.proofs.Common.{◌≡◌, ◌≢◌, ◌<◌, ◌≤◌, ◌^◌, ◌&&◌, nat_le, ℕ, true, cond, List, [], ◌∷◌, drop, codes, Option, Some, None, is_some, w64, FitsSigned, All, refl, arith}
 use Rattle.std.specs.Prelude.{IfSome, option_map}
 use Rattle.std.specs.List.{AllByRecursion}
 use Rattle.std.specs.Str.{bytes_eq}
 use Rattle.std.proofs.lemmas.Bool.{and_parts}
 use Rattle.std.proofs.lemmas.Bool.Decides.{nat_tests}
 use Rattle.std.proofs.lemmas.List.Elements.{All-nil}
-use Rattle.pth_base.specs.declared.thread.ThreadState.{ThreadState}
 use Rattle.pth_base.specs.declared.thread.ThreadState.TheVariants.{Running}
-use Rattle.pth_line.specs.Values.{Scope, register_in, operand_in, bytes_in}
-use Rattle.pth_line.specs.declared.operand.ByteOperand.{ByteOperand}
-use Rattle.pth_line.specs.declared.operand.ByteOperand.TheVariants as bytes
-use Rattle.pth_line.specs.declared.operand.Operand.{Operand}
-use Rattle.pth_line.specs.declared.operand.Operand.TheVariants as operand
-use Rattle.pth_line.specs.declared.operand.Register.{Register}
+use Rattle.pth_operand.specs.Values.{Scope, register_in, operand_in, bytes_in}
+use Rattle.pth_operand.specs.declared.operand.ByteOperand.{ByteOperand}
+use Rattle.pth_operand.specs.declared.operand.ByteOperand.TheVariants as bytes
+use Rattle.pth_operand.specs.declared.operand.Operand.{Operand}
+use Rattle.pth_operand.specs.declared.operand.Operand.TheVariants as operand
+use Rattle.pth_operand.specs.declared.operand.Register.{Register}
 use Rattle.pth_text.specs.Number.{numeral_value}
 use Rattle.pth_spelling.specs.Named.{named_in}
 use Rattle.pth_spelling.specs.WordMeanings.{operand_of, register_of, maybe, name_of, set_of, given_of, has_hex, bytes_of, goal_words, goals_of, state_words, thread_state_of}

@@ -1,15 +1,11 @@
 -- What is refused of a content stands behind what was taken of it.
-use Rattle.std.proofs.Common.{◌≡◌, ◌∙◌, ◌+◌, ◌≢◌, ◌⊎◌, ◌^◌, ℕ, List, [], ◌∷◌, ◌++◌, codes, Option, Some, None, ap, sym, refl, subst, append_assoc, append-nil, inl, inr}
-use Rattle.std.proofs.lemmas.List.{append_cancel_left}
+use Rattle.std.proofs.Common.{◌≡◌, ◌∙◌, ◌+◌, ◌≢◌, ◌⊎◌, ◌^◌, ℕ, List, [], ◌∷◌, ◌++◌, codes, Option, Some, None, ap, refl, append_assoc, append-nil, inl, inr}
 use Rattle.std.specs.Io.KnownBytes.{Consumes, IsAtEnd}
 use Rattle.pth_streams.specs.Inputs.{AreHeld}
-use Rattle.pth_transcript.specs.ReadableMarks.{IsReadableEnding, IsReadableTold}
 use Rattle.pth_transcript.specs.Reading.{ComesNoPart, IsRefused}
-use Rattle.pth_transcript.specs.Taking.{Ahead, HasMore, HasNoLine, IsLineless, Takes, TakesOne, ahead}
+use Rattle.pth_transcript.specs.Taking.{Ahead, HasMore, IsLineless, Takes, ahead}
 use Rattle.pth_transcript.specs.Transcript.{ending_line, told_line}
 use Rattle.pth_transcript.specs.Transcripts.{BeginsNoLine, IsUnknown}
-use Rattle.pth_transcript.specs.declared.ending.Ending.{Ending}
-use Rattle.pth_transcript.specs.declared.told.Told.{Told}
 use Rattle.pth_transcript.proofs.Cuts.{IsLine, no_line, same_line}
 use Rattle.pth_transcript.proofs.EndingsBack.{ending_is_line}
 use Rattle.pth_transcript.proofs.Takings.{front, takes_then}

@@ -1,8 +1,5 @@
 -- What is read of a line is what the line tells.
-use Rattle.std.proofs.Common.{◌≡◌, ◌∙◌, ◌++◌, ℕ, List, codes, Option, Some, None, ap, sym}
-use Rattle.std.specs.Prelude.{IfSome}
-use Rattle.pth_base.specs.declared.mark.Mark.{Mark}
-use Rattle.pth_base.proofs.Namings.{none_some}
+use Rattle.std.proofs.Common.{◌≡◌, ◌∙◌, ◌++◌, ℕ, List, codes, Some, None, sym}
 use Rattle.pth_transcript.specs.ReadableMarks.{IsEndingLineBack, IsLineBack, IsReadableEnding, IsReadableTold, told_of}
 use Rattle.pth_transcript.specs.Transcript.{ending_line, told_line}
 use Rattle.pth_transcript.specs.Transcripts.{IsTold, IsToldEnding, IsUnknown}

@@ -7,7 +7,7 @@ use Rattle.pth_base.specs.declared.attr.AttrField.{AttrField}
 use Rattle.pth_base.specs.declared.attr.AttrField.TheVariants as field
 use Rattle.pth_base.specs.declared.thread.ThreadState.{ThreadState}
 use Rattle.pth_base.specs.declared.thread.ThreadState.TheVariants.{New, Ready, Running, Waiting, Dead}
-use Rattle.pth_line.specs.declared.operand.Operand.TheVariants as operand
+use Rattle.pth_operand.specs.declared.operand.Operand.TheVariants as operand
 use Rattle.pth_text.specs.Number.{numeral_value}
 use Rattle.pth_text.proofs.Numbers.{written_number_is_read}
 use Rattle.pth_spelling.specs.Keywords.{call_word, new_event_word}

@@ -1,8 +1,8 @@
 -- How words are read back as a call.
 use Rattle.std.specs.Prelude.{◌≡◌, ℕ, List, Option, Some, None}
 use Rattle.pth_base.specs.declared.call.Call.{Call}
-use Rattle.pth_line.specs.LineCalls.{call_in}
-use Rattle.pth_line.specs.Values.{Scope}
+use Rattle.pth_line.specs.CallLines.{call_in}
+use Rattle.pth_operand.specs.Values.{Scope}
 use Rattle.pth_line.specs.declared.call_line.CallLine.{CallLine}
 use Rattle.pth_line.specs.declared.line.Line.TheVariants as body
 use Rattle.pth_grammar.specs.LineMeanings.{line_of}

@@ -2,9 +2,9 @@
 
 ghost use Rattle.std.specs.Prelude.{◌≡◌, pos, [], ◌∷◌, Some, IfOk, IfSome, codes};
 ghost use Rattle.pth_base.specs.declared.call.Call.{Call};
-ghost use Rattle.pth_line.specs.LineCalls.{call_in};
+ghost use Rattle.pth_line.specs.CallLines.{call_in};
 ghost use Rattle.pth_line.specs.Script.{first_cells, first_frame};
-ghost use Rattle.pth_line.specs.Values.{scope};
+ghost use Rattle.pth_operand.specs.Values.{scope};
 ghost use Rattle.pth_spelling.specs.Texts.{texts};
 ghost use Rattle.pth_transcript.specs.ReadBack.{IsScripted, IsReadBack};
 ghost use Rattle.pth_transcript.specs.Readable.{IsReadable};
@@ -15,9 +15,9 @@ use pth_base::call::Call;
 use pth_base::memory::OutOfMemory;
 use pth_grammar::lines::line;
 use pth_line::call_line::CallLine;
-use pth_line::cells::Cells;
-use pth_line::frame::{Frame, Owed};
 use pth_line::line::Line;
+use pth_operand::cells::Cells;
+use pth_operand::frame::{Frame, Owed};
 use pth_spelling::start::Start;
 use pth_text::number::read_number;
 use std::alloc::Global;
@@ -43,7 +43,7 @@ fn made(alloc: Global, line: &CallLine) -> Result<Call, OutOfMemory>
         (λ made. made ≡ call_in (scope (first_frame 0 (pos 0)) first_cells) line.now) }
 {
     let frame = unanswered(alloc)?;
-    line.call(&frame, &Cells { cells: [0; 64] })
+    line.call(alloc, &frame, &Cells { cells: [0; 64] })
 }
 
 /// A call as a script has it.

@@ -8,7 +8,7 @@ use crate::keyword::QueryWord;
 use crate::named::named;
 use pth_base::attr::AttrField;
 use pth_base::thread::ThreadState;
-use pth_line::relation::Relation;
+use pth_operand::relation::Relation;
 
 static GOALS: [(&str, u8); 7] = [
     ("r", 1),

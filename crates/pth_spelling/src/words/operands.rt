@@ -6,7 +6,7 @@ ghost use Rattle.pth_spelling.specs.WordMeanings.{shared_of, own_of, register_of
 use crate::words::numbers::number_below;
 use pth_base::bytes::Bytes;
 use pth_base::memory::OutOfMemory;
-use pth_line::operand::{ByteOperand, Operand, Register, Value};
+use pth_operand::operand::{ByteOperand, Operand, Register, Value};
 use pth_text::hex::read_hex;
 use pth_text::number::read_number;
 use std::alloc::Global;

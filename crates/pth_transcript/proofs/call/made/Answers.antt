@@ -1,9 +1,9 @@
 use Rattle.std.proofs.Common.{◌≡◌, subst}
 use Rattle.std.specs.Prelude.{IfOk}
-use Rattle.pth_line.specs.LineCalls.{call_in}
+use Rattle.pth_line.specs.CallLines.{call_in}
 use Rattle.pth_line.specs.Script.{first_cells}
-use Rattle.pth_line.specs.Values.{scope}
-use Rattle.pth_line.specs.declared.frame.Frame.{Frame}
+use Rattle.pth_operand.specs.Values.{scope}
+use Rattle.pth_operand.specs.declared.frame.Frame.{Frame}
 use Rattle.pth_transcript.proofs.call.made.Goals as goal
 
 pub returns : goal.returns

@@ -1,5 +1,5 @@
 use Rattle.std.proofs.Common.{◌∙◌, ap, Some}
-use Rattle.pth_line.specs.LineCalls.{call_in}
+use Rattle.pth_line.specs.CallLines.{call_in}
 use Rattle.pth_transcript.proofs.OwnBack.{same_line}
 use Rattle.pth_transcript.proofs.ReadCalls.{first_scope, script_call_readable}
 use Rattle.pth_transcript.proofs.call.script_call.Goals as goal
