@@ -1,7 +1,8 @@
 -- What a call comes to: the state after it, the marks, and what comes next for its thread.
 --
 -- `refused EINVAL when A otherwise returns 1` is read like this: if A holds, the call is refused with EINVAL, and else it returns 1.
--- `G then returns 1` says that the state becomes G of what it was, and the call returns 1. Each test is of the state before the call.
+-- `G then returns 1` says that the state becomes G of what it was, and the call returns 1. Each test is of the state before the call, but
+-- for that of `retakes`: it is of the state after the changes before it, which leave mutexes as they are.
 use Rattle.std.specs.Prelude.{◌≡◌, ℕ, ℤ, pos, Bool, true, false, List, [], ◌∷◌, ◌++◌, Some, None}
 use Rattle.pth_base.specs.Program.{Functions}
 use Rattle.pth_base.specs.declared.answer.Answer.{Answer}
@@ -62,7 +63,7 @@ module _ {P S H : Type 0} where
   abbrev pub returns : ℕ → Outcome P S H
   returns n = answers (Int (pos n))
 
-  -- the call fails: it returns the error (errno), and changes nothing
+  -- the call fails: it returns the error (errno), and itself changes nothing
   abbrev pub refused : Errno → Outcome P S H
   refused e = answers (Fail e)
 

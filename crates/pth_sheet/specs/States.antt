@@ -52,7 +52,7 @@ module _ {P S H : Type 0} where
   abbrev pub joins_detached : State P S H → ℤ → Bool
   joins_detached s n = not (is_zero n) && not (thread_of s n).joinable
 
-  -- the wait of t is over: no call blocks t, and the claim on the event ring of its call is given back
+  -- the wait of t is over: no call blocks t, and the claim on the event ring of its call is given back, with the seats of its events
   abbrev pub unblocks : ℕ → State P S H → State P S H
   unblocks t = controlled (stops_waiting t)
 

@@ -13,8 +13,8 @@ ghost use Rattle.pth_sheet.specs.States.{barriers_become, unblocks};
 
 use pth_base::program::Program;
 
-/// This dynamically initializes a barrier variable `b` with threshold `n`. Here there are 64 of them, each is initialized once, and `n` is
-/// 1 to 4096.
+/// This dynamically initializes a barrier variable `b` with threshold `n`. Here there are 64 of them, numbered from 0, and `n` is 1 to 4096
+/// (else EINVAL). Each is initialized once (else EBUSY).
 pub fn pth_barrier_init<P: Program>()
     ensures { (s : State P P.State P.Shared) (t : ℕ) (b n : ℤ) →
         Begins P.functions s t (call.BarrierInit b n) (

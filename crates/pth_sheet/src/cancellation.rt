@@ -13,9 +13,11 @@ ghost use Rattle.pth_sheet.specs.States.{entry_of, control_becomes};
 
 use pth_base::program::Program;
 
-/// This manages the cancellation state of the current thread, and returns the old cancellation state. When `n` is not 0 it sets the new
-/// cancellation state. A state is a combination of `PTH_CANCEL_ENABLE` or `PTH_CANCEL_DISABLE` and `PTH_CANCEL_DEFERRED` or
-/// `PTH_CANCEL_ASYNCHRONOUS`. Here these are numbered: 1 and 2 are deferred, 3 and 4 are asynchronous, 1 and 3 are enabled.
+/// This manages the cancellation state of the current thread. When `n` is not 0 it sets the new cancellation state. The old state is
+/// created before the new state is set. A state is a combination of `PTH_CANCEL_ENABLE` or `PTH_CANCEL_DISABLE` and `PTH_CANCEL_DEFERRED`
+/// or `PTH_CANCEL_ASYNCHRONOUS`. `PTH_CANCEL_ENABLE|PTH_CANCEL_DEFERRED` is the default state. Here the old state is the answer, and each
+/// state has a number (else EINVAL): 1 is enabled and deferred, 2 disabled and deferred, 3 enabled and asynchronous, 4 disabled and
+/// asynchronous.
 pub fn pth_cancel_state<P: Program>()
     ensures { (s : State P P.State P.Shared) (t : ℕ) (n : ℤ) →
         Begins P.functions s t (call.CancelState n) (
@@ -25,7 +27,8 @@ pub fn pth_cancel_state<P: Program>()
 {}
 
 /// This explicitly enters a cancellation point. When the current cancellation state is `PTH_CANCEL_DISABLE` or no cancellation request is
-/// pending, this has no side effect and returns immediately. Else it calls `pth_exit(PTH_CANCELED)`.
+/// pending, this has no side effect and returns immediately, here with 1. Else it calls `pth_exit(PTH_CANCELED)`. `is_to_cancel` says that
+/// a request is pending and the state is enabled.
 pub fn pth_cancel_point<P: Program>()
     ensures { (s : State P P.State P.Shared) (t : ℕ) →
         Begins P.functions s t call.CancelPoint (

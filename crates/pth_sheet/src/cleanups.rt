@@ -16,7 +16,7 @@ ghost use Rattle.pth_sheet.specs.States.{cleanups_of, cleanups_become};
 use pth_base::program::Program;
 
 /// This pushes the routine `h` with the argument `v` onto the stack of cleanup routines for the current thread. These routines are called
-/// in LIFO order when the thread terminates. Here a stack has at most 256 routines.
+/// in LIFO order when the thread terminates. Here a routine is a handler of the program, and a stack has at most 256 of them (else EAGAIN).
 pub fn pth_cleanup_push<P: Program>()
     ensures { (s : State P P.State P.Shared) (t : ℕ) (h v : ℤ) →
         Begins P.functions s t (call.CleanupPush h v) (
@@ -25,7 +25,8 @@ pub fn pth_cleanup_push<P: Program>()
 {}
 
 /// This pops the top-most routine from the stack of cleanup routines for the current thread. When `v` is TRUE (not 0), the routine is
-/// additionally called.
+/// additionally called. Here an empty stack is refused (EINVAL), and `x` is the top: the routine `x.0` with the argument `x.1`. It is
+/// called before it is popped, which makes no difference: no routine can push or pop.
 pub fn pth_cleanup_pop<P: Program>()
     ensures no_routine { (s : State P P.State P.Shared) (t : ℕ) (v : ℤ) →
         pop_answer (cleanups_of s) t ≡ None →

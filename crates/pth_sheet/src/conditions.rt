@@ -1,4 +1,8 @@
 //! Synchronization of pth(3): condition variables, `pth_cond_t`.
+//!
+//! A thread that waits on a condition, and an event of it for which a thread waits, has a *seat* there; `seat_of t` is that of `t`. Seats
+//! stand in the order in which they were entered. A notification marks the first that is not marked, or all. Whoever is canceled or ends
+//! before it uses the mark of a single notification hands it on: the first seat that is not marked is marked.
 
 ghost use Rattle.std.specs.Prelude.{ℕ, ℤ, not, ◌≡◌, false, ◌||◌, is_none, true};
 ghost use Rattle.pth_base.specs.declared.call.Call.TheVariants as call;
@@ -18,7 +22,8 @@ ghost use Rattle.pth_sheet.specs.States.{is_condition, conditions_become, is_no_
 
 use pth_base::program::Program;
 
-/// This dynamically initializes a condition variable `c`. Here there are 64 of them, and each is initialized once.
+/// This dynamically initializes a condition variable `c`. Here there are 64 of them, numbered from 0 (else EINVAL), and each is initialized
+/// once (else EBUSY).
 pub fn pth_cond_init<P: Program>()
     ensures { (s : State P P.State P.Shared) (t : ℕ) (c : ℤ) →
         Begins P.functions s t (call.CondInit c) (
@@ -29,10 +34,15 @@ pub fn pth_cond_init<P: Program>()
 
 /// This awaits a condition situation. The mutex `m` has to be acquired before this function is called. The execution of the current thread
 /// is then suspended either until the events in `e` occurred (when `e` is not NULL, 0) or `c` was notified by another thread via
-/// pth_cond_notify(3). While the thread is waiting, `m` is released. Before it returns, `m` is reacquired. Here an event that comes first
-/// is answered EINTR, and a canceled thread reacquires `m` before it ends.
+/// pth_cond_notify(3). While the thread is waiting, `m` is released. Before it returns, `m` is reacquired. Here a mutex that is not locked
+/// is refused (EDEADLK), and one that another thread has locked (EACCES). One level of `m` is released. An event that comes first is
+/// answered EINTR, and a canceled thread reacquires `m` before it ends.
 ///
-/// The premise holds in every run: the flag `awaits` of a thread is set from its wait until it has `m` again.
+/// `begins` is the call. `goes_on` is of a thread that waits for the notice: it is over for one of three causes (`retake`), and `retakes`
+/// says that `t` reacquires `m` at once, or waits for it. The statements `takes_mutex_back_..` are of a thread that waits for `m`, for each
+/// cause.
+///
+/// The premises hold in every run: the flag `awaits` of a thread is set from its wait until it has `m` again. `n` is `m` in every run.
 pub fn pth_cond_await<P: Program>()
     ensures begins { (s : State P P.State P.Shared) (t : ℕ) (c m e : ℤ) →
         s.resources.awaits t ≡ false →
@@ -74,7 +84,8 @@ pub fn pth_cond_await<P: Program>()
 {}
 
 /// This notifies one or all threads which are waiting on `c`. When `v` is TRUE (not 0) all threads are notified, else only a single
-/// (unspecified) one. Here it is the one that has waited longest of those that are not notified yet.
+/// (unspecified) one. Here it is the one that has waited longest of those that are not notified yet, a thread or an event. If nobody waits,
+/// nothing changes, and the call returns 1.
 pub fn pth_cond_notify<P: Program>()
     ensures { (s : State P P.State P.Shared) (t : ℕ) (c v : ℤ) →
         Begins P.functions s t (call.CondNotify c v) (

@@ -15,7 +15,8 @@ ghost use Rattle.pth_sheet.specs.States.{is_mutex, mutexes_become, is_no_ring_of
 
 use pth_base::program::Program;
 
-/// This dynamically initializes a mutex variable `m`. Here there are 64 of them, and each is initialized once.
+/// This dynamically initializes a mutex variable `m`. Here there are 64 of them, numbered from 0 (else EINVAL), and each is initialized
+/// once (else EBUSY).
 pub fn pth_mutex_init<P: Program>()
     ensures { (s : State P P.State P.Shared) (t : ℕ) (m : ℤ) →
         Begins P.functions s t (call.MutexInit m) (
@@ -27,8 +28,9 @@ pub fn pth_mutex_init<P: Program>()
 /// This acquires a mutex `m`. If the mutex is already locked by another thread, the current thread's execution is suspended until the mutex
 /// is unlocked again or additionally the extra events in `e` occurred (when `e` is not NULL, 0). Recursive locking is explicitly supported,
 /// i.e., a thread is allowed to acquire a mutex more than once before it is released. But it then also has to be released the same number
-/// of times. When `v` is TRUE (not 0) this function never suspends execution. Instead it returns FALSE with `errno` set to EBUSY. Here an
-/// event that comes first is answered EINTR.
+/// of times. When `v` is TRUE (not 0) this function never suspends execution. Instead it returns FALSE with `errno` set to EBUSY. Here a
+/// thread has a mutex at most 65,535 times (else EAGAIN), and an event that comes first is answered EINTR. When the thread is dispatched
+/// and finds the mutex unlocked, it acquires it, even if an event has occurred too.
 pub fn pth_mutex_acquire<P: Program>()
     ensures begins { (s : State P P.State P.Shared) (t : ℕ) (m v e : ℤ) →
         Begins P.functions s t (call.MutexAcquire m v e) (
@@ -48,7 +50,8 @@ pub fn pth_mutex_acquire<P: Program>()
         waits_for (awaits.Mutex m)) }
 {}
 
-/// This decrements the recursion locking count on mutex `m`, and when it is zero it releases the mutex.
+/// This decrements the recursion locking count on mutex `m`, and when it is zero it releases the mutex. Here a mutex that is not locked is
+/// refused (EDEADLK), and one that another thread has locked (EACCES).
 pub fn pth_mutex_release<P: Program>()
     ensures { (s : State P P.State P.Shared) (t : ℕ) (m : ℤ) →
         Begins P.functions s t (call.MutexRelease m) (

@@ -15,7 +15,8 @@ ghost use Rattle.pth_sheet.specs.States.{locks_of, locks_become, is_no_ring_of, 
 
 use pth_base::program::Program;
 
-/// This dynamically initializes a read-write lock variable `l`. Here there are 64 of them, and each is initialized once.
+/// This dynamically initializes a read-write lock variable `l`. Here there are 64 of them, numbered from 0 (else EINVAL), and each is
+/// initialized once (else EBUSY).
 pub fn pth_rwlock_init<P: Program>()
     ensures { (s : State P P.State P.Shared) (t : ℕ) (l : ℤ) →
         Begins P.functions s t (call.RwInit l) (
@@ -48,7 +49,8 @@ pub fn pth_rwlock_acquire<P: Program>()
         waits_for (awaits.Lock l write)) }
 {}
 
-/// This releases a previously acquired (read-only or read-write) lock `l`.
+/// This releases a previously acquired (read-only or read-write) lock `l`. Here a lock that nobody holds is refused (EDEADLK), and one that
+/// only others hold (EACCES).
 pub fn pth_rwlock_release<P: Program>()
     ensures { (s : State P P.State P.Shared) (t : ℕ) (l : ℤ) →
         Begins P.functions s t (call.RwRelease l) (

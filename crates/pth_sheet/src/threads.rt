@@ -148,7 +148,9 @@ pub fn pth_wait<P: Program>()
 /// This cancels a thread `n`. How the cancellation is done depends on the cancellation state of `n`. When its state is
 /// `PTH_CANCEL_DISABLE`, a cancellation request is just made pending. When it is `PTH_CANCEL_ENABLE` and `PTH_CANCEL_DEFERRED`, again the
 /// cancellation request is just made pending. But when it is `PTH_CANCEL_ASYNCHRONOUS`, the thread is immediately canceled before
-/// pth_cancel(3) returns. Here the main thread and a dead thread are refused (EPERM).
+/// pth_cancel(3) returns. `is_asynchronous` is true of enabled states alone. The effect of a thread cancellation is equal to implicitly
+/// forcing the thread to call `pth_exit(PTH_CANCELED)` at one of its cancellation points. Here the current thread is refused (EINVAL), as
+/// are the main thread and a dead thread (EPERM).
 pub fn pth_cancel<P: Program>()
     ensures { (s : State P P.State P.Shared) (t : ℕ) (n : ℤ) →
         Begins P.functions s t (call.Cancel n) (
@@ -162,7 +164,7 @@ pub fn pth_cancel<P: Program>()
 
 /// This is the cruel way to cancel a thread `n`. When it is already dead and waits to be joined, it just joins it and this way kicks it out
 /// of the system. Else it forces the thread to be not joinable and to allow asynchronous cancellation (cancel state 3), and then cancels it
-/// via pth_cancel(3). Here the main thread is refused (EPERM).
+/// via pth_cancel(3). Here the current thread is refused (EINVAL), as is the main thread (EPERM).
 pub fn pth_abort<P: Program>()
     ensures { (s : State P P.State P.Shared) (t : ℕ) (n : ℤ) →
         Begins P.functions s t (call.Abort n) (
