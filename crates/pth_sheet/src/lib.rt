@@ -40,8 +40,8 @@
 //!
 //! `GoesOn P.functions s t c W (..)` says the same of a call `c` in which `t` waits for W, at the moment at which `t` is dispatched again.
 //! `unblocks t` ends the wait; `waits_for W` and `still_waits` go on with it. Where it begins with `canceled`, the call is a cancellation
-//! point: "In Pth a thread enters a cancellation point either explicitly via pth_cancel_point(3) or implicitly by waiting for an event." There
-//! `may_be_canceled` says that a request of `t` is pending and its cancel state enables it; being canceled ends the wait too. (In
+//! point: "In Pth a thread enters a cancellation point either explicitly via pth_cancel_point(3) or implicitly by waiting for an event."
+//! There `may_be_canceled` says that a request of `t` is pending and its cancel state enables it; being canceled ends the wait too. (In
 //! `pth_cond_await` a canceled thread first reacquires its mutex.)
 //!
 //! - `then` and `before` bind closer than `when`: `G then H then O when A otherwise` is one case, also over several lines. What stands
@@ -59,8 +59,8 @@
 //! - An operand is a number. `number n` is the thread, event or port with number `n`, `object_named m` the mutex, lock, condition or
 //!   barrier, and `fd_named f` the descriptor. `is_zero v` says that `v` is NULL, or FALSE. `made + 1` is the number of a new thing.
 //! - An extra event `e` that is neither NULL nor an event is refused (EINVAL, `is_no_ring_of`), as is a call on a mutex, lock, condition or
-//!   barrier that was not initialised. A ring for which a thread waits already is refused (EBUSY, `ring_is_in_use`) where the call would have
-//!   to wait.
+//!   barrier that was not initialised. A ring for which a thread waits already is refused (EBUSY, `ring_is_in_use`) where the call would
+//!   have to wait.
 //! - `awaits.X` is what a waiting call waits for (`awaits.rt` of `pth_model`), `change.X v` the field X of a thread's record, and `call.X`
 //!   the call, with its operands in the order of pth(3).
 //! - `moment_after now l` is the time `l` after now, `length_of 1 l` a length of `l` microseconds.
