@@ -60,7 +60,7 @@
 //!   barrier, and `fd_named f` the descriptor. `is_zero v` says that `v` is NULL, or FALSE. `made + 1` is the number of a new thing.
 //! - An extra event `e` that is neither NULL nor an event is refused (EINVAL, `is_no_ring_of`), as is a call on a mutex, lock, condition or
 //!   barrier that was not initialised. A ring for which a thread waits already is refused (EBUSY, `ring_is_in_use`) where the call would
-//!   have to wait.
+//!   have to wait. An event of the ring *comes* as it occurs or fails, so that `has_event_settled` holds.
 //! - `awaits.X` is what a waiting call waits for (`awaits.rt` of `pth_model`), `change.X v` the field X of a thread's record, and `call.X`
 //!   the call, with its operands in the order of pth(3).
 //! - `moment_after now l` is the time `l` after now, `length_of 1 l` a length of `l` microseconds.
