@@ -24,7 +24,8 @@ use Rattle.pth_model.specs.State.{State, Control}
 use Rattle.pth_model.specs.Transition.{Piece, Went, nothing, silent, tells, tid, ◌and_then◌, ◌and_next◌, ◌and_finally◌}
 use Rattle.pth_model.specs.declared.verdict.Verdict.{Verdict}
 use Rattle.pth_model.specs.declared.verdict.Verdict.TheVariants.{Says}
-use Rattle.pth_model.specs.Verdict.{refused, says, ◌when◌otherwise◌}
+use Rattle.pth_model.specs.Verdict.{refused, says}
+use Rattle.pth_numbered.specs.Clauses.{◌when◌otherwise◌}
 use Rattle.pth_threads.specs.declared.entry.Change.TheVariants as change
 use Rattle.pth_threads.specs.declared.entry.Entry.{Entry}
 use Rattle.pth_world.specs.Leading.{IsAnswered, IsQuiet}

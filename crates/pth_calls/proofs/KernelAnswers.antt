@@ -13,7 +13,8 @@ use Rattle.pth_model.specs.State.{State}
 use Rattle.pth_model.specs.Transition.{changes}
 use Rattle.pth_model.specs.declared.verdict.Verdict.{Verdict}
 use Rattle.pth_model.specs.declared.verdict.Verdict.TheVariants.{Says}
-use Rattle.pth_model.specs.Verdict.{refused, says, done, by_result, ◌when◌otherwise◌}
+use Rattle.pth_model.specs.Verdict.{refused, says, done, by_result}
+use Rattle.pth_numbered.specs.Clauses.{◌when◌otherwise◌}
 use Rattle.pth_world.specs.Leading.{IsAnswered}
 use Rattle.pth_world.specs.World.{WorldOf}
 use Rattle.pth_world.proofs.Kernels.{turned_shows}

@@ -29,7 +29,8 @@ use Rattle.pth_model.specs.State.{State, Control, once_limit}
 use Rattle.pth_model.specs.Transition.{Transition, Went, controlled, changes, silent, tells, tid, where_so, ◌and_then◌, ◌and_next◌, ◌and_finally◌}
 use Rattle.pth_model.specs.declared.verdict.Verdict.{Verdict}
 use Rattle.pth_model.specs.declared.verdict.Verdict.TheVariants.{Says}
-use Rattle.pth_model.specs.Verdict.{by_result, done, refused, says, ◌when◌otherwise◌}
+use Rattle.pth_model.specs.Verdict.{by_result, done, refused, says}
+use Rattle.pth_numbered.specs.Clauses.{◌when◌otherwise◌}
 use Rattle.pth_numbered.specs.Operands.{number, is_below, is_zero}
 use Rattle.pth_store.specs.Cleanups.{PushedHandler, push_answer, top_taken, with_top}
 use Rattle.pth_store.specs.Keys.{created, deleted, key_create_answer, key_delete_answer, key_named}

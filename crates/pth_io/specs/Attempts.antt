@@ -6,15 +6,10 @@ use Rattle.pth_base.specs.declared.answer.Answer.TheVariants.{Int, Bytes, Sets, 
 use Rattle.pth_base.specs.declared.errno.Errno.{Errno}
 use Rattle.pth_base.specs.declared.errno.Errno.TheVariants.{EINVAL, EBADF, EIO, ECONNREFUSED}
 use Rattle.pth_base.specs.Descriptors.{members, set_with}
+use Rattle.pth_numbered.specs.Clauses.{◌when◌otherwise◌, count_or}
 use Rattle.pth_numbered.specs.Operands.{number, is_zero, ◌is_from◌to◌}
 use Rattle.pth_kernel.specs.Kernel.{Kernel, is_fd_live, unread, room, connections, connected, came, is_readable, is_writeable, is_exceptional, earliest, bytes_taken, room_used, connection_accepted}
 use Rattle.pth_kernel.specs.Entries.{is_eof, is_failure}
-
--- the clauses of an attempt stand in order: the first one that holds is its answer
-infixr 4 ◌when◌otherwise◌
-abbrev pub ◌when◌otherwise◌ : Option Answer → Bool → Option Answer → Option Answer
-a when true otherwise b = a
-a when false otherwise b = b
 
 abbrev pub fails : Errno → Option Answer
 fails e = Some (Fail e)
@@ -24,10 +19,6 @@ counts n = Some (Int (pos n))
 
 abbrev pub not_yet : Option Answer
 not_yet = None
-
--- the count where a part was done, else an error
-abbrev pub counts_or : ℕ → Errno → Option Answer
-counts_or n e = counts n when nat_lt 0 n otherwise fails e
 
 -- by what there is, or else by what follows
 abbrev pub answered_or : {A : Type 0} → (A → Answer) → Option A → Option Answer → Option Answer
@@ -64,9 +55,9 @@ module _ (k : Kernel) (f : ℕ) where
   -- pth_write of so many bytes, where a part was written already
   unfoldable pub write_answer : (total done : ℕ) → Option Answer
   write_answer total done =
-      counts_or done EBADF when not (is_fd_live k f) otherwise
+      Some (count_or done EBADF) when not (is_fd_live k f) otherwise
       counts done when done == total otherwise
-      counts_or done EIO when came k is_failure f otherwise
+      Some (count_or done EIO) when came k is_failure f otherwise
       counts (done + fits total done) when done + fits total done == total otherwise
       not_yet
 

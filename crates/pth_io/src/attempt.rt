@@ -2,7 +2,8 @@
 
 ghost use Rattle.std.specs.Prelude.{◌≡◌, ◌<◌, ◌^◌};
 ghost use Rattle.pth_io.specs.Answered.{answered};
-ghost use Rattle.pth_io.specs.Attempts.{fails, counts, counts_or};
+ghost use Rattle.pth_io.specs.Attempts.{fails, counts};
+ghost use Rattle.pth_numbered.specs.Clauses.{count_or};
 
 use pth_base::answer::Answer;
 use pth_base::errno::Errno;
@@ -45,7 +46,7 @@ pub(crate) fn counts(n: usize) -> Attempt
 // The count where a part was done, else an error.
 pub(crate) fn counts_or(n: usize, e: Errno) -> Attempt
     requires { n < 2 ^ 63 }
-    ensures { answered result ≡ counts_or n e }
+    ensures { answered result ≡ Some (count_or n e) }
 {
     if n > 0 { counts(n) } else { fails(e) }
 }

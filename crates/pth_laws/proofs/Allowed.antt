@@ -37,7 +37,8 @@ use Rattle.pth_model.specs.declared.blocked.Blocked.{Blocked}
 use Rattle.pth_model.specs.declared.progress.Progress.{Progress}
 use Rattle.pth_model.specs.declared.verdict.Verdict.{Verdict}
 use Rattle.pth_model.specs.declared.verdict.Verdict.TheVariants.{Says, Yields, Blocks, Ends, Kills}
-use Rattle.pth_model.specs.Verdict.{refused, says, counts_or, by_result, taken_or, ◌when◌otherwise◌, refused_as◌otherwise◌}
+use Rattle.pth_model.specs.Verdict.{refused, says, by_result, taken_or, refused_as◌otherwise◌}
+use Rattle.pth_numbered.specs.Clauses.{count_or, ◌when◌otherwise◌}
 use Rattle.pth_model.specs.Resources.{Resources}
 use Rattle.pth_model.specs.Io.{trial_for, tries, at_once, begins_waiting, is_refused_length, select_deadline}
 use Rattle.pth_model.specs.Conditions.{seat_of}
@@ -191,12 +192,8 @@ asking_answers false true barred = refl
 asking_answers false false true = refl
 asking_answers false false false = refl
 
-counts_answers : (n : ℕ) (e : Errno) → is_blocking (counts_or n e) ≡ false
-counts_answers n e = by_test (nat_lt 0 n)
-  where
-    by_test : (b : Bool) → is_blocking (says n when b otherwise refused e) ≡ false
-    by_test true = refl
-    by_test false = refl
+counts_answers : (n : ℕ) (e : Errno) → is_blocking (Says (count_or n e)) ≡ false
+counts_answers n e = refl
 
 interrupted_answers : (v : Verdict) → is_blocking (interrupted v) ≡ false
 interrupted_answers (Says a) = refl
@@ -389,9 +386,9 @@ module _ {P S H : Type 0} (f : P → Functions S H) (t : ℕ) where
 
   -- a call on descriptors that is not yet; u has the events of s
   not_yet_allowed : (s u : State P S H) (c : Call) (r : Option ℤ) (at_once has : Bool) (a : Awaits) → ring_given c ≡ r → is_taking c ≡ false → is_no_ring s r ≡ false → is_claimed_ring s r ≡ has → u.control.events ≡ s.control.events → IsFree t u → Names c a × MayBegin u.resources t c
-      → IsAllowed t c (counts_or (written_in a) EAGAIN when at_once otherwise counts_or (written_in a) EBUSY when has otherwise Blocks a) u
-  not_yet_allowed s u c r true has a given other there claim same free right = allowed_at_once t c (counts_or (written_in a) EAGAIN) u other (counts_answers (written_in a) EAGAIN)
-  not_yet_allowed s u c r false true a given other there claim same free right = allowed_at_once t c (counts_or (written_in a) EBUSY) u other (counts_answers (written_in a) EBUSY)
+      → IsAllowed t c (Says (count_or (written_in a) EAGAIN) when at_once otherwise Says (count_or (written_in a) EBUSY) when has otherwise Blocks a) u
+  not_yet_allowed s u c r true has a given other there claim same free right = allowed_at_once t c (Says (count_or (written_in a) EAGAIN)) u other (counts_answers (written_in a) EAGAIN)
+  not_yet_allowed s u c r false true a given other there claim same free right = allowed_at_once t c (Says (count_or (written_in a) EBUSY)) u other (counts_answers (written_in a) EBUSY)
   not_yet_allowed s u c r false false a given other there claim same free right = (free, ring_waits t s u c a r given same there claim right.0 right.1)
 
   -- one that begins

@@ -76,7 +76,8 @@ use Rattle.pth_model.specs.Transition.{Piece, Change, silent, nothing, changes, 
 use Rattle.pth_model.specs.Changes.{shares, uses, sets, goes_on, owing, is_blocked_by, enters, leaves_queue, trails, raises_ready, makes, forgets, removes, adds_object, puts_object, with_threads, with_conditions, with_barriers, with_events, with_kernel, with_scheduler, moves_to, prefers, runs_now, blocked_in, blocked_of, or_nobody, entry_of, prio_of, queue_for, holders}
 use Rattle.pth_model.specs.declared.verdict.Verdict.{Verdict}
 use Rattle.pth_model.specs.declared.verdict.Verdict.TheVariants.{Says, Yields, Blocks, Ends, Kills}
-use Rattle.pth_model.specs.Verdict.{refused, says, done, by_result, ◌when◌otherwise◌}
+use Rattle.pth_model.specs.Verdict.{refused, says, done, by_result}
+use Rattle.pth_numbered.specs.Clauses.{◌when◌otherwise◌}
 use Rattle.pth_model.specs.Row.{Attempt, unless_refused, refuses, effect_of, ◌trying◌}
 use Rattle.pth_model.specs.EventSeats.{seats_changed}
 use Rattle.pth_model.specs.RingWaits.{awaited_in, claims, extra_ring, is_no_ring, is_claimed_ring, ring_given, ring_held, ring_seats, events_from, stops_waiting, has_settled}

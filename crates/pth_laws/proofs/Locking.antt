@@ -32,7 +32,8 @@ use Rattle.pth_model.specs.State.{State}
 use Rattle.pth_model.specs.Transition.{Piece, silent, tid}
 use Rattle.pth_model.specs.declared.verdict.Verdict.{Verdict}
 use Rattle.pth_model.specs.declared.verdict.Verdict.TheVariants.{Says, Yields, Blocks, Ends, Kills}
-use Rattle.pth_model.specs.Verdict.{refused, says, done, by_result, taken_or, ◌when◌otherwise◌}
+use Rattle.pth_model.specs.Verdict.{refused, says, done, by_result, taken_or}
+use Rattle.pth_numbered.specs.Clauses.{◌when◌otherwise◌}
 use Rattle.pth_laws.proofs.Book.{Book}
 use Rattle.pth_laws.proofs.Laws.{IsAnswerExclusive, IsExclusiveMark, HasMutex, MayTake}
 use Rattle.pth_model.specs.Awaits.{is_await}

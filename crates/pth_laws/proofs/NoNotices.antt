@@ -23,7 +23,8 @@ use Rattle.pth_model.specs.declared.verdict.Verdict.TheVariants.{Says, Yields, B
 use Rattle.pth_model.specs.Awaits.{death_of, is_await, round_in}
 use Rattle.pth_model.specs.State.{State, Control}
 use Rattle.pth_model.specs.Transition.{Change, changes, silent}
-use Rattle.pth_model.specs.Verdict.{refused, says, said_or, counts_or, by_result, taken_or, ◌when◌otherwise◌, refused_as◌otherwise◌}
+use Rattle.pth_model.specs.Verdict.{refused, says, said_or, by_result, taken_or, refused_as◌otherwise◌}
+use Rattle.pth_numbered.specs.Clauses.{count_or, ◌when◌otherwise◌}
 use Rattle.pth_model.specs.Barriers.{arrived_as, tries_round}
 use Rattle.pth_model.specs.Calls.{interrupted, unless_settled}
 use Rattle.pth_model.specs.Changes.{with_barriers}
@@ -66,8 +67,8 @@ said_none : (o : Option Answer) (v : Verdict) → is_noticing v ≡ false → is
 said_none (Some a) v none = refl
 said_none None v none = none
 
-counts_none : (n : ℕ) (e : Errno) → is_noticing (counts_or n e) ≡ false
-counts_none n e = when_none (says n) (nat_lt 0 n) (refused e) refl refl
+counts_none : (n : ℕ) (e : Errno) → is_noticing (Says (count_or n e)) ≡ false
+counts_none n e = refl
 
 interrupted_none : (v : Verdict) → is_noticing (interrupted v) ≡ false
 interrupted_none (Says a) = refl

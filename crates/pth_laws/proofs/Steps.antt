@@ -36,7 +36,8 @@ use Rattle.pth_model.specs.declared.next.Next.TheVariants as next
 use Rattle.pth_model.specs.Resources.{Resources, told, answer_told, wait_told, handler}
 use Rattle.pth_model.specs.declared.verdict.Verdict.{Verdict}
 use Rattle.pth_model.specs.declared.verdict.Verdict.TheVariants.{Says, Yields, Blocks, Ends, Kills}
-use Rattle.pth_model.specs.Verdict.{refused, says, ◌when◌otherwise◌}
+use Rattle.pth_model.specs.Verdict.{refused, says}
+use Rattle.pth_numbered.specs.Clauses.{◌when◌otherwise◌}
 use Rattle.pth_model.specs.Awaits.{round_in, is_await, is_awaiting, is_retaking, awaits_in, is_canceled}
 use Rattle.pth_model.specs.Barriers.{tries_round}
 use Rattle.pth_model.specs.Conditions.{can_take, is_noticed, leaves_seat, hands_on_seat, hands_on_seats}

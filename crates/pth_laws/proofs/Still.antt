@@ -27,7 +27,8 @@ use Rattle.pth_model.specs.State.{State}
 use Rattle.pth_model.specs.Living.{is_dead}
 use Rattle.pth_model.specs.ThreadControl.{is_known, joined, takes_joined, thread, to_join, values_for}
 use Rattle.pth_model.specs.Transition.{Change, Piece, changes}
-use Rattle.pth_model.specs.Verdict.{refused, says, done, by_result, ◌when◌otherwise◌, refused_as◌otherwise◌}
+use Rattle.pth_model.specs.Verdict.{refused, says, done, by_result, refused_as◌otherwise◌}
+use Rattle.pth_numbered.specs.Clauses.{◌when◌otherwise◌}
 use Rattle.pth_laws.proofs.Allowed.{is_blocking, when_answers, asking_answers}
 
 -- verdicts that do not block

@@ -33,7 +33,8 @@ use Rattle.pth_model.specs.Resources.{Resources, on_one, on_int, on_msg, told, a
 use Rattle.pth_model.specs.State.{State, Given, start, main}
 use Rattle.pth_model.specs.Transition.{controlled, tells, tid}
 use Rattle.pth_model.specs.Changes.{sets, goes_on, blocking, is_blocked_by, makes, forgets, with_conditions, with_barriers, blocked_in, blocked_of}
-use Rattle.pth_model.specs.Verdict.{says, ◌when◌otherwise◌}
+use Rattle.pth_model.specs.Verdict.{says}
+use Rattle.pth_numbered.specs.Clauses.{◌when◌otherwise◌}
 use Rattle.pth_model.specs.RingWaits.{claims, extra_ring, gives_back, ring_given, ring_held, stops_waiting}
 use Rattle.pth_model.specs.Mutexes.{mutex}
 use Rattle.pth_model.specs.Rows.{row_of}

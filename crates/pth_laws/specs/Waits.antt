@@ -24,7 +24,8 @@ use Rattle.pth_model.specs.Row.{Row}
 use Rattle.pth_model.specs.Rows.{row_of}
 use Rattle.pth_model.specs.Rwlocks.{lets_in}
 use Rattle.pth_model.specs.State.{State}
-use Rattle.pth_model.specs.Verdict.{says, ◌when◌otherwise◌}
+use Rattle.pth_model.specs.Verdict.{says}
+use Rattle.pth_numbered.specs.Clauses.{◌when◌otherwise◌}
 
 -- Thread t, which this call blocks, waits for a mutex or a lock that is initialised, and is no holder of the lock. Who waits at a
 -- condition has fewer levels of its mutex than it may have, since the wait gave one back.

@@ -22,7 +22,8 @@ use Rattle.pth_model.specs.declared.verdict.Verdict.TheVariants.{Says, Yields, B
 use Rattle.pth_model.specs.Awaits.{death_of, is_retaking, round_in}
 use Rattle.pth_model.specs.State.{State, Control}
 use Rattle.pth_model.specs.Transition.{Change, changes, silent}
-use Rattle.pth_model.specs.Verdict.{refused, says, said_or, counts_or, by_result, taken_or, ◌when◌otherwise◌, refused_as◌otherwise◌}
+use Rattle.pth_model.specs.Verdict.{refused, says, said_or, by_result, taken_or, refused_as◌otherwise◌}
+use Rattle.pth_numbered.specs.Clauses.{count_or, ◌when◌otherwise◌}
 use Rattle.pth_model.specs.Barriers.{arrived_as, tries_round}
 use Rattle.pth_model.specs.Calls.{interrupted, unless_settled}
 use Rattle.pth_model.specs.Changes.{with_barriers}
@@ -93,8 +94,8 @@ module _ (rounds : Bool) where
   said_none (Some a) v none = refl
   said_none None v none = none
 
-  counts_none : (n : ℕ) (e : Errno) → is_rounding rounds (counts_or n e) ≡ false
-  counts_none n e = when_none (says n) (nat_lt 0 n) (refused e) refl refl
+  counts_none : (n : ℕ) (e : Errno) → is_rounding rounds (Says (count_or n e)) ≡ false
+  counts_none n e = refl
 
   pub interrupted_none : (v : Verdict) → is_rounding rounds (interrupted v) ≡ false
   interrupted_none (Says a) = refl

@@ -32,7 +32,8 @@ use Rattle.pth_model.specs.declared.next.Next.TheVariants as next
 use Rattle.pth_numbered.specs.Operands.{number, is_zero, ◌is◌}
 use Rattle.pth_model.specs.declared.verdict.Verdict.{Verdict}
 use Rattle.pth_model.specs.declared.verdict.Verdict.TheVariants.{Says, Yields, Blocks, Ends, Kills}
-use Rattle.pth_model.specs.Verdict.{refused, says, by_result, ◌when◌otherwise◌}
+use Rattle.pth_model.specs.Verdict.{refused, says, by_result}
+use Rattle.pth_numbered.specs.Clauses.{◌when◌otherwise◌}
 use Rattle.pth_model.specs.State.{State, Control, Turn, main}
 use Rattle.pth_model.specs.Transition.{Piece, Change as change_of_control, silent, nothing, changes, tells, tells_each, controlled, where_so, tid, ◌and_then◌, ◌and◌}
 use Rattle.pth_model.specs.Changes.{shares, uses, goes_on, blocking, is_blocked_by, blocked_of, entry_of, or_nobody, owing, prefers, removes, favours_new, sets, adds_object, puts_object, with_barriers, with_events, with_kernel}

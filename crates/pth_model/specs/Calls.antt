@@ -19,7 +19,7 @@ use Rattle.pth_model.specs.Awaits.{awaits_in, moment_in, written_in}
 use Rattle.pth_model.specs.Coming.{has_come}
 use Rattle.pth_model.specs.declared.verdict.Verdict.{Verdict}
 use Rattle.pth_model.specs.declared.verdict.Verdict.TheVariants.{Says, Yields, Blocks, Ends, Kills}
-use Rattle.pth_model.specs.Verdict.{counts_or}
+use Rattle.pth_numbered.specs.Clauses.{count_or}
 use Rattle.pth_model.specs.State.{State}
 use Rattle.pth_model.specs.Transition.{Piece, Change, Last, silent, changes, tells, tid, ◌and◌, ◌and_then◌, ◌and_next◌, ◌and_finally◌, nothing}
 use Rattle.pth_model.specs.Changes.{is_blocked_by, blocked_of}
@@ -68,7 +68,7 @@ module _ {P S H : Type 0} (f : P → Functions S H) (t : ℕ) where
 
 -- the blocked call is answered EINTR in place of blocking on, or with its count if it wrote a part
 abbrev pub interrupted : Verdict → Verdict
-interrupted (Blocks a) = counts_or (written_in a) EINTR
+interrupted (Blocks a) = Says (count_or (written_in a) EINTR)
 interrupted (Says a) = Says a
 interrupted (Yields a) = Yields a
 interrupted (Ends v) = Ends v

@@ -15,7 +15,8 @@ use Rattle.pth_model.specs.declared.awaits.Awaits.TheVariants.{Nothing, Alone, R
 use Rattle.pth_model.specs.declared.blocked.Blocked.{Blocked}
 use Rattle.pth_model.specs.Awaits.{awaits_in}
 use Rattle.pth_model.specs.declared.verdict.Verdict.TheVariants.{Ends}
-use Rattle.pth_model.specs.Verdict.{refused, says, ◌when◌otherwise◌}
+use Rattle.pth_model.specs.Verdict.{refused, says}
+use Rattle.pth_numbered.specs.Clauses.{◌when◌otherwise◌}
 use Rattle.pth_model.specs.State.{Control, State, main}
 use Rattle.pth_model.specs.Transition.{Piece, changes, tells, tid, nothing, where_so, ◌and◌, ◌and_then◌}
 use Rattle.pth_model.specs.Changes.{sets, removes, entry_of, blocked_of, or_nobody}

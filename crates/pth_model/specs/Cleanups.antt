@@ -5,7 +5,8 @@ use Rattle.pth_base.specs.declared.errno.Errno.TheVariants.{EINVAL}
 use Rattle.pth_numbered.specs.Operands.{number, is_zero, is_below}
 use Rattle.pth_store.specs.Cleanups.{PushedHandler, push_answer, pop_answer}
 use Rattle.pth_model.specs.Resources.{handler}
-use Rattle.pth_model.specs.Verdict.{refused, says, done, by_result, ◌when◌otherwise◌}
+use Rattle.pth_model.specs.Verdict.{refused, says, done, by_result}
+use Rattle.pth_numbered.specs.Clauses.{◌when◌otherwise◌}
 use Rattle.pth_model.specs.State.{State, once_limit}
 use Rattle.pth_model.specs.Transition.{Piece, silent, changes, nothing, where_so, ◌and_then◌}
 use Rattle.pth_model.specs.Changes.{uses}

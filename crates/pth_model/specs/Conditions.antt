@@ -12,7 +12,8 @@ use Rattle.pth_model.specs.declared.awaits.Awaits.{Awaits}
 use Rattle.pth_model.specs.declared.awaits.Awaits.TheVariants.{Nothing, Notice}
 use Rattle.pth_model.specs.declared.verdict.Verdict.{Verdict}
 use Rattle.pth_model.specs.declared.verdict.Verdict.TheVariants.{Blocks}
-use Rattle.pth_model.specs.Verdict.{done, by_result, refused, ◌when◌otherwise◌}
+use Rattle.pth_model.specs.Verdict.{done, by_result, refused}
+use Rattle.pth_numbered.specs.Clauses.{◌when◌otherwise◌}
 use Rattle.pth_model.specs.State.{State}
 use Rattle.pth_model.specs.Transition.{Change, changes, nothing, silent, tid, ◌and◌}
 use Rattle.pth_model.specs.Changes.{with_conditions}

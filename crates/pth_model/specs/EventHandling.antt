@@ -16,7 +16,8 @@ use Rattle.pth_ring.specs.Rings.{make_answer, chain_answer, concat_answer, isola
 use Rattle.pth_model.specs.declared.awaits.Awaits.TheVariants.{Ring}
 use Rattle.pth_model.specs.declared.verdict.Verdict.{Verdict}
 use Rattle.pth_model.specs.declared.verdict.Verdict.TheVariants.{Says, Blocks}
-use Rattle.pth_model.specs.Verdict.{refused, says, done, by_result, ◌when◌otherwise◌, refused_as◌otherwise◌}
+use Rattle.pth_model.specs.Verdict.{refused, says, done, by_result, refused_as◌otherwise◌}
+use Rattle.pth_numbered.specs.Clauses.{◌when◌otherwise◌}
 use Rattle.pth_model.specs.State.{State}
 use Rattle.pth_model.specs.Transition.{Change, silent, nothing}
 use Rattle.pth_model.specs.Changes.{with_events}

@@ -11,7 +11,8 @@ use Rattle.pth_model.specs.declared.awaits.Awaits.{Awaits}
 use Rattle.pth_model.specs.declared.awaits.Awaits.TheVariants.{Reading, Writing, Connection, ConnectAnswer, Selection}
 use Rattle.pth_model.specs.declared.verdict.Verdict.{Verdict}
 use Rattle.pth_model.specs.declared.verdict.Verdict.TheVariants.{Blocks}
-use Rattle.pth_model.specs.Verdict.{refused, says, said_or, counts_or, by_result, ◌when◌otherwise◌}
+use Rattle.pth_model.specs.Verdict.{refused, says, said_or, by_result}
+use Rattle.pth_numbered.specs.Clauses.{count_or, ◌when◌otherwise◌}
 use Rattle.pth_model.specs.State.{State, now_of}
 use Rattle.pth_model.specs.Transition.{changes}
 use Rattle.pth_model.specs.Changes.{with_kernel}
@@ -77,8 +78,8 @@ module _ {P S H : Type 0} (s : State P S H) where
   -- once, with its count if it wrote a part; else it blocks its thread.
   abbrev pub begins_waiting : (at_once : Bool) → Option ℤ → Verdict → Verdict
   begins_waiting at_once e (Blocks a) =
-      counts_or (written_in a) EAGAIN when at_once otherwise
-      counts_or (written_in a) EBUSY when is_claimed_ring s e otherwise
+      Says (count_or (written_in a) EAGAIN) when at_once otherwise
+      Says (count_or (written_in a) EBUSY) when is_claimed_ring s e otherwise
       Blocks a
   begins_waiting at_once e v = v
 

@@ -13,7 +13,8 @@ use Rattle.pth_numbered.specs.Operands.{◌is◌, ◌is_from◌to◌}
 use Rattle.pth_ring.specs.Rings.{all_unclaimed}
 use Rattle.pth_cond.specs.Barriers.{all_withdrawn}
 use Rattle.pth_model.specs.declared.verdict.Verdict.TheVariants.{Says, Kills}
-use Rattle.pth_model.specs.Verdict.{refused, says, ◌when◌otherwise◌}
+use Rattle.pth_model.specs.Verdict.{refused, says}
+use Rattle.pth_numbered.specs.Clauses.{◌when◌otherwise◌}
 use Rattle.pth_model.specs.State.{State, main, present, queue}
 use Rattle.pth_model.specs.Transition.{Change, nothing}
 use Rattle.pth_model.specs.Changes.{or_nobody, favours_new}

@@ -7,7 +7,8 @@ use Rattle.pth_lock.specs.Mutexes.{Mutex as MutexOf, owner_of, mutex_init_answer
 use Rattle.pth_model.specs.declared.awaits.Awaits.TheVariants.{Mutex}
 use Rattle.pth_model.specs.declared.verdict.Verdict.{Verdict}
 use Rattle.pth_model.specs.declared.verdict.Verdict.TheVariants.{Blocks}
-use Rattle.pth_model.specs.Verdict.{refused, says, done, by_result, taken_or, ◌when◌otherwise◌}
+use Rattle.pth_model.specs.Verdict.{refused, says, done, by_result, taken_or}
+use Rattle.pth_numbered.specs.Clauses.{◌when◌otherwise◌}
 use Rattle.pth_model.specs.State.{State}
 use Rattle.pth_model.specs.Transition.{silent, nothing}
 use Rattle.pth_model.specs.Row.{Row, ◌changing◌, ◌trying◌}

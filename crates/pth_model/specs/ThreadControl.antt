@@ -19,7 +19,8 @@ use Rattle.pth_numbered.specs.Operands.{number, named, is_zero, is_below, ◌is�
 use Rattle.pth_model.specs.Awaits.{death_of}
 use Rattle.pth_model.specs.declared.verdict.Verdict.{Verdict}
 use Rattle.pth_model.specs.declared.verdict.Verdict.TheVariants.{Says, Yields, Blocks}
-use Rattle.pth_model.specs.Verdict.{refused, says, ◌when◌otherwise◌, refused_as◌otherwise◌}
+use Rattle.pth_model.specs.Verdict.{refused, says, refused_as◌otherwise◌}
+use Rattle.pth_numbered.specs.Clauses.{◌when◌otherwise◌}
 use Rattle.pth_model.specs.State.{Control, State, present, queue}
 use Rattle.pth_model.specs.Transition.{Change, changes, nothing, ◌and◌}
 use Rattle.pth_model.specs.Changes.{entry_of, or_nobody, makes, enters, leaves_queue, sets, removes, prefers, holders, queue_for}

@@ -3,7 +3,7 @@ use Rattle.std.specs.Prelude.{ℕ, ◌==◌, ◌&&◌, not, ℤ, Bool, true, Lis
 use Rattle.pth_queue.specs.declared.queue.Queue.TheVariants as queue
 use Rattle.pth_model.specs.declared.awaits.Awaits.TheVariants.{Alone}
 use Rattle.pth_model.specs.declared.verdict.Verdict.TheVariants.{Blocks, Ends}
-use Rattle.pth_model.specs.Verdict.{◌when◌otherwise◌}
+use Rattle.pth_numbered.specs.Clauses.{◌when◌otherwise◌}
 use Rattle.pth_model.specs.State.{Control, State, queue, main}
 use Rattle.pth_model.specs.Transition.{silent}
 use Rattle.pth_model.specs.Changes.{holders}

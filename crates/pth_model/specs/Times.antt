@@ -6,7 +6,8 @@ use Rattle.pth_numbered.specs.Operands.{number, is_zero}
 use Rattle.pth_model.specs.declared.awaits.Awaits.TheVariants.{Moment}
 use Rattle.pth_model.specs.Awaits.{moment_in}
 use Rattle.pth_model.specs.declared.verdict.Verdict.TheVariants.{Blocks}
-use Rattle.pth_model.specs.Verdict.{refused, says, ◌when◌otherwise◌}
+use Rattle.pth_model.specs.Verdict.{refused, says}
+use Rattle.pth_numbered.specs.Clauses.{◌when◌otherwise◌}
 use Rattle.pth_model.specs.State.{State, now_of}
 use Rattle.pth_model.specs.Transition.{silent, nothing}
 use Rattle.pth_model.specs.Row.{Row, ◌changing◌, ◌trying◌}

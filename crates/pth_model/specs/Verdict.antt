@@ -7,12 +7,6 @@ use Rattle.pth_base.specs.declared.errno.Errno.TheVariants.{EBUSY}
 use Rattle.pth_model.specs.declared.verdict.Verdict.{Verdict}
 use Rattle.pth_model.specs.declared.verdict.Verdict.TheVariants.{Says}
 
--- the clauses of a row stand in order: the first one that holds is the verdict
-infixr 4 ◌when◌otherwise◌
-abbrev pub ◌when◌otherwise◌ : Verdict → Bool → Verdict → Verdict
-v when true otherwise w = v
-v when false otherwise w = w
-
 abbrev pub refused : Errno → Verdict
 refused e = Says (Fail e)
 
@@ -23,10 +17,6 @@ says n = Says (Int (pos n))
 abbrev pub said_or : Option Answer → Verdict → Verdict
 said_or (Some a) v = Says a
 said_or None v = v
-
--- the count where a part was done, else an error
-abbrev pub counts_or : ℕ → Errno → Verdict
-counts_or n e = says n when nat_lt 0 n otherwise refused e
 
 -- done, with nothing to say
 abbrev pub done : Unit {0} → Verdict

@@ -21,7 +21,8 @@ use Rattle.pth_model.specs.declared.next.Next.TheVariants as next
 use Rattle.pth_model.specs.declared.progress.Progress.{Progress}
 use Rattle.pth_model.specs.declared.verdict.Verdict.{Verdict}
 use Rattle.pth_model.specs.declared.verdict.Verdict.TheVariants.{Says, Yields, Blocks, Ends, Kills}
-use Rattle.pth_model.specs.Verdict.{refused, says, done, by_result, said_or, counts_or, taken_or, ◌when◌otherwise◌, refused_as◌otherwise◌}
+use Rattle.pth_model.specs.Verdict.{refused, says, done, by_result, said_or, taken_or, refused_as◌otherwise◌}
+use Rattle.pth_numbered.specs.Clauses.{count_or, ◌when◌otherwise◌}
 use Rattle.pth_model.specs.State.{State, Control, Given, Turn, start, queue, present, main, now_of, once_limit}
 use Rattle.pth_model.specs.Transition.{Change, Went, changes, silent, tid, controlled, ◌and◌}
 use Rattle.pth_base.specs.declared.answer.Answer.{Answer}
@@ -139,8 +140,8 @@ said_on : (a : Option Answer) (x : Verdict) → EndsNot x → EndsNot (said_or a
 said_on (Some a) x rest = says_on a
 said_on None x rest = rest
 
-counts_on : (n : ℕ) (e : Errno) → EndsNot (counts_or n e)
-counts_on n e = when_on (says n) (nat_lt 0 n) (refused e) (says_on (Int (pos n))) (says_on (Fail e))
+counts_on : (n : ℕ) (e : Errno) → EndsNot (Says (count_or n e))
+counts_on n e = says_on (count_or n e)
 
 -- nor does an attempt at what is awaited of descriptors
 answered_on : (o : Option Answer) (a : Awaits) → EndsNot (answered_or_waits o a)
@@ -274,8 +275,8 @@ module _ {P S H : Type 0} (f : P → Functions S H) (s : State P S H) (t : ℕ) 
   -- calls on descriptors, as they begin
   waiting_on : (now : Bool) (e : Option ℤ) (x : Verdict) → EndsNot x → EndsNot (begins_waiting s now e x)
   waiting_on now e (Blocks a) on =
-      let unless_claimed = when_on (counts_or (written_in a) EBUSY) (is_claimed_ring s e) (Blocks a) (counts_on (written_in a) EBUSY) on in
-      when_on (counts_or (written_in a) EAGAIN) now (counts_or (written_in a) EBUSY when is_claimed_ring s e otherwise Blocks a) (counts_on (written_in a) EAGAIN) unless_claimed
+      let unless_claimed = when_on (Says (count_or (written_in a) EBUSY)) (is_claimed_ring s e) (Blocks a) (counts_on (written_in a) EBUSY) on in
+      when_on (Says (count_or (written_in a) EAGAIN)) now (Says (count_or (written_in a) EBUSY) when is_claimed_ring s e otherwise Blocks a) (counts_on (written_in a) EAGAIN) unless_claimed
   waiting_on now e x on = on
 
   tries_on : (e : Option ℤ) (refused_else now : Bool) (a : Awaits) → EndsNot (tries s e refused_else now a).begin.verdict

@@ -50,7 +50,8 @@ use Rattle.pth_model.specs.Row.{refuses, unless_refused, ◌trying◌}
 use Rattle.pth_model.specs.Rows.{row_of}
 use Rattle.pth_model.specs.declared.verdict.Verdict.{Verdict}
 use Rattle.pth_model.specs.declared.verdict.Verdict.TheVariants.{Says, Yields, Blocks, Ends, Kills}
-use Rattle.pth_model.specs.Verdict.{by_result, refused, says, ◌when◌otherwise◌}
+use Rattle.pth_model.specs.Verdict.{by_result, refused, says}
+use Rattle.pth_numbered.specs.Clauses.{◌when◌otherwise◌}
 use Rattle.pth_model.specs.ThreadControl.{is_known, joined, takes_joined, thread}
 use Rattle.pth_world.specs.WellFormed.{IsSelection, IsWriting, MayAwaitAs, MayBlock}
 use Rattle.pth_waits.proofs.Dormancy.{KeepsRounds, claimed_pending, entered_seats, same_pending, same_seats}

@@ -20,7 +20,7 @@ use Rattle.pth_cond.specs.declared.seats.Seat.{Seat}
 use Rattle.pth_cond.specs.declared.seats.Taken.{Taken}
 use Rattle.pth_model.specs.EventSeats.{condition_of, condition_in, event_seat, seat_changed, seats_changed}
 use Rattle.pth_sheet.specs.Events.{is_of_condition, waits_for_condition, entered_by, but_those_of, handed_on_by, NoneTwice}
-use Rattle.pth_sheet.specs.Outcomes.{◌when◌otherwise◌}
+use Rattle.pth_numbered.specs.Clauses.{◌when◌otherwise◌}
 use Rattle.pth_sheet.proofs.Cases.{by_cases}
 
 -- ---- one change of the seats of many events

@@ -13,6 +13,7 @@ use Rattle.pth_base.specs.declared.errno.Errno.{Errno}
 use Rattle.pth_base.specs.declared.mark.Mark.{Mark}
 use Rattle.pth_base.specs.declared.mark.Mark.TheVariants as mark
 use Rattle.pth_threads.specs.declared.entry.Change.TheVariants as change
+use Rattle.pth_numbered.specs.Clauses.{◌when◌otherwise◌}
 use Rattle.pth_lock.specs.Objects.{object_named}
 use Rattle.pth_model.specs.declared.awaits.Awaits.{Awaits}
 use Rattle.pth_model.specs.declared.next.Next.{Next}
@@ -27,12 +28,6 @@ use Rattle.pth_model.specs.declared.awaits.Retake.{Retake}
 use Rattle.pth_model.specs.State.{State}
 use Rattle.pth_model.specs.Transition.{Transition, Went, controlled, tid}
 use Rattle.pth_sheet.specs.States.{takes_mutex_back}
-
--- the first of two, if the test holds, and else the second
-infixr 4 ◌when◌otherwise◌
-abbrev pub ◌when◌otherwise◌ : {A : Type 0} → A → Bool → A → A
-x when true otherwise y = x
-x when false otherwise y = y
 
 -- what a call of a thread comes to, from the state before it
 abbrev pub Outcome : Type 0 → Type 0 → Type 0 → Type 0

@@ -18,7 +18,8 @@ ghost use Rattle.pth_model.specs.AttributeHandling.{object, sets_field, answer_o
 ghost use Rattle.pth_model.specs.Changes.{adds_object, puts_object};
 ghost use Rattle.pth_model.specs.State.{State};
 ghost use Rattle.pth_model.specs.Transition.{tid};
-ghost use Rattle.pth_sheet.specs.Outcomes.{Begins, refused, ◌when◌otherwise◌, ◌then◌, returns, answers};
+ghost use Rattle.pth_sheet.specs.Outcomes.{Begins, refused, ◌then◌, returns, answers};
+ghost use Rattle.pth_numbered.specs.Clauses.{◌when◌otherwise◌};
 ghost use Rattle.pth_sheet.specs.States.{is_full_of_attributes, control_becomes};
 
 use pth_base::program::Program;

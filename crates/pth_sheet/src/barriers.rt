@@ -8,7 +8,8 @@ ghost use Rattle.pth_lock.specs.Objects.{is_object, object_named};
 ghost use Rattle.pth_cond.specs.Barriers.{is_size, barrier_initialised, Barrier, barrier_reached, taillight, lacks_one, round_answered, round_answer, has_passed};
 ghost use Rattle.pth_model.specs.State.{State};
 ghost use Rattle.pth_model.specs.declared.awaits.Awaits.TheVariants as awaits;
-ghost use Rattle.pth_sheet.specs.Outcomes.{Begins, refused, ◌when◌otherwise◌, ◌then◌, returns, answers, waits_for, GoesOn};
+ghost use Rattle.pth_sheet.specs.Outcomes.{Begins, refused, ◌then◌, returns, answers, waits_for, GoesOn};
+ghost use Rattle.pth_numbered.specs.Clauses.{◌when◌otherwise◌};
 ghost use Rattle.pth_sheet.specs.States.{barriers_become, unblocks};
 
 use pth_base::program::Program;

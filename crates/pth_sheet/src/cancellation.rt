@@ -8,7 +8,8 @@ ghost use Rattle.pth_threads.specs.declared.entry.Change.TheVariants as change;
 ghost use Rattle.pth_model.specs.Cancellation.{is_to_cancel};
 ghost use Rattle.pth_model.specs.Changes.{sets};
 ghost use Rattle.pth_model.specs.State.{State};
-ghost use Rattle.pth_sheet.specs.Outcomes.{Begins, canceled, ◌when◌otherwise◌, returns, refused, ◌then◌};
+ghost use Rattle.pth_sheet.specs.Outcomes.{Begins, canceled, returns, refused, ◌then◌};
+ghost use Rattle.pth_numbered.specs.Clauses.{◌when◌otherwise◌};
 ghost use Rattle.pth_sheet.specs.States.{entry_of, control_becomes};
 
 use pth_base::program::Program;

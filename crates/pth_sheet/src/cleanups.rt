@@ -10,7 +10,8 @@ ghost use Rattle.pth_store.specs.Cleanups.{is_full_stack, with_top, pop_answer, 
 ghost use Rattle.pth_model.specs.Acts.{runs_handler};
 ghost use Rattle.pth_model.specs.Resources.{handler};
 ghost use Rattle.pth_model.specs.State.{State};
-ghost use Rattle.pth_sheet.specs.Outcomes.{Begins, refused, ◌when◌otherwise◌, ◌then◌, returns, ◌before◌};
+ghost use Rattle.pth_sheet.specs.Outcomes.{Begins, refused, ◌then◌, returns, ◌before◌};
+ghost use Rattle.pth_numbered.specs.Clauses.{◌when◌otherwise◌};
 ghost use Rattle.pth_sheet.specs.States.{cleanups_of, cleanups_become};
 
 use pth_base::program::Program;

@@ -17,7 +17,8 @@ ghost use Rattle.pth_model.specs.RingWaits.{ring_seats, extra_ring};
 ghost use Rattle.pth_model.specs.State.{State};
 ghost use Rattle.pth_model.specs.declared.awaits.Awaits.TheVariants as awaits;
 ghost use Rattle.pth_model.specs.declared.awaits.Retake.TheVariants as retake;
-ghost use Rattle.pth_sheet.specs.Outcomes.{Begins, refused, ◌when◌otherwise◌, ◌then◌, returns, waits_for, GoesOn, clears_request, ◌before◌, retakes, marks_mutex_taken, ends, still_waits};
+ghost use Rattle.pth_sheet.specs.Outcomes.{Begins, refused, ◌then◌, returns, waits_for, GoesOn, clears_request, ◌before◌, retakes, marks_mutex_taken, ends, still_waits};
+ghost use Rattle.pth_numbered.specs.Clauses.{◌when◌otherwise◌};
 ghost use Rattle.pth_sheet.specs.States.{is_condition, conditions_become, is_no_ring_of, is_mutex, mutex_of, ring_is_in_use, claims_ring, mutexes_become, sets_awaiting, control_becomes, unblocks, has_event_settled};
 
 use pth_base::program::Program;

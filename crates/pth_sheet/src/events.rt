@@ -19,7 +19,8 @@ ghost use Rattle.pth_ring.specs.declared.event.Event.{Event};
 ghost use Rattle.pth_model.specs.EventHandling.{are_goals, spec_of, number_or_none, status_number};
 ghost use Rattle.pth_model.specs.State.{State};
 ghost use Rattle.pth_model.specs.Times.{is_negative, moment_of, length_of};
-ghost use Rattle.pth_sheet.specs.Outcomes.{Begins, refused, ◌when◌otherwise◌, ◌then◌, returns, answers};
+ghost use Rattle.pth_sheet.specs.Outcomes.{Begins, refused, ◌then◌, returns, answers};
+ghost use Rattle.pth_numbered.specs.Clauses.{◌when◌otherwise◌};
 ghost use Rattle.pth_sheet.specs.States.{events_become};
 
 use pth_base::program::Program;

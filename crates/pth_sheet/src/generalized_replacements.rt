@@ -18,7 +18,8 @@ ghost use Rattle.pth_model.specs.Cancellation.{may_be_canceled};
 ghost use Rattle.pth_model.specs.Io.{select_deadline, is_refused_length};
 ghost use Rattle.pth_model.specs.State.{State};
 ghost use Rattle.pth_model.specs.declared.awaits.Awaits.TheVariants as awaits;
-ghost use Rattle.pth_sheet.specs.Outcomes.{Begins, refused, ◌when◌otherwise◌, returns, waits_for, GoesOn, canceled, ◌then◌, answers};
+ghost use Rattle.pth_sheet.specs.Outcomes.{Begins, refused, returns, waits_for, GoesOn, canceled, ◌then◌, answers};
+ghost use Rattle.pth_numbered.specs.Clauses.{◌when◌otherwise◌};
 ghost use Rattle.pth_sheet.specs.States.{unblocks, kernel_becomes, is_no_ring_of, ring_is_in_use, claims_ring, has_event_settled};
 
 use pth_base::program::Program;

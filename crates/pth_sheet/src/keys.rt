@@ -7,7 +7,8 @@ ghost use Rattle.pth_base.specs.declared.errno.Errno.TheVariants.{EAGAIN, ENOENT
 ghost use Rattle.pth_store.specs.Keys.{free_key, created, is_key, key_named, deleted, with_key_value};
 ghost use Rattle.pth_model.specs.Resources.{destructor_by};
 ghost use Rattle.pth_model.specs.State.{State};
-ghost use Rattle.pth_sheet.specs.Outcomes.{Begins, refused, ◌then◌, returns, ◌when◌otherwise◌, answers};
+ghost use Rattle.pth_sheet.specs.Outcomes.{Begins, refused, ◌then◌, returns, answers};
+ghost use Rattle.pth_numbered.specs.Clauses.{◌when◌otherwise◌};
 ghost use Rattle.pth_sheet.specs.States.{keys_of, keys_become};
 
 use pth_base::program::Program;

@@ -11,7 +11,8 @@ ghost use Rattle.pth_model.specs.Changes.{favours_new};
 ghost use Rattle.pth_model.specs.LibraryControl.{running_count};
 ghost use Rattle.pth_model.specs.State.{State, main, present, queue};
 ghost use Rattle.pth_model.specs.ThreadControl.{is_known};
-ghost use Rattle.pth_sheet.specs.Outcomes.{Begins, refused, ◌when◌otherwise◌, ◌then◌, kills, returns, answers};
+ghost use Rattle.pth_sheet.specs.Outcomes.{Begins, refused, ◌then◌, kills, returns, answers};
+ghost use Rattle.pth_numbered.specs.Clauses.{◌when◌otherwise◌};
 ghost use Rattle.pth_sheet.specs.States.{leaves_only, control_becomes, thread_of};
 
 use pth_base::program::Program;

@@ -10,7 +10,8 @@ ghost use Rattle.pth_model.specs.Cancellation.{may_be_canceled};
 ghost use Rattle.pth_model.specs.Mutexes.{is_free};
 ghost use Rattle.pth_model.specs.State.{State};
 ghost use Rattle.pth_model.specs.declared.awaits.Awaits.TheVariants as awaits;
-ghost use Rattle.pth_sheet.specs.Outcomes.{Begins, refused, ◌when◌otherwise◌, ◌then◌, returns, waits_for, GoesOn, canceled};
+ghost use Rattle.pth_sheet.specs.Outcomes.{Begins, refused, ◌then◌, returns, waits_for, GoesOn, canceled};
+ghost use Rattle.pth_numbered.specs.Clauses.{◌when◌otherwise◌};
 ghost use Rattle.pth_sheet.specs.States.{is_mutex, mutexes_become, is_no_ring_of, mutex_of, ring_is_in_use, claims_ring, unblocks, has_event_settled};
 
 use pth_base::program::Program;

@@ -25,7 +25,7 @@ ghost use Rattle.pth_model.specs.ThreadControl.{is_known};
 ghost use Rattle.pth_model.specs.Times.{moment_after};
 ghost use Rattle.pth_model.specs.Transition.{tid};
 ghost use Rattle.pth_sheet.specs.Events.{event, after_pass, is_awaited, Finds, failed, occurred, pending, pending_until, check_holds};
-ghost use Rattle.pth_sheet.specs.Outcomes.{◌when◌otherwise◌};
+ghost use Rattle.pth_numbered.specs.Clauses.{◌when◌otherwise◌};
 ghost use Rattle.pth_sheet.specs.States.{thread_of, is_condition, is_message_port, pending_on};
 
 use pth_base::program::Program;

@@ -7,7 +7,8 @@ ghost use Rattle.pth_base.specs.declared.errno.Errno.TheVariants.{EEXIST, EAGAIN
 ghost use Rattle.pth_numbered.specs.Operands.{number, is_zero};
 ghost use Rattle.pth_port.specs.Mail.{is_taken, port_added, with_port, port_removed, closed_port, put_to, got, Message, replied};
 ghost use Rattle.pth_model.specs.State.{State};
-ghost use Rattle.pth_sheet.specs.Outcomes.{Begins, refused, ◌when◌otherwise◌, ◌then◌, returns, answers};
+ghost use Rattle.pth_sheet.specs.Outcomes.{Begins, refused, ◌then◌, returns, answers};
+ghost use Rattle.pth_numbered.specs.Clauses.{◌when◌otherwise◌};
 ghost use Rattle.pth_sheet.specs.States.{ports_of, is_message_port, port_with_name, pending_on, kept_message, can_be_replied, is_full_of_ports, is_full_of_messages, ports_become, mail_becomes};
 
 use pth_base::program::Program;

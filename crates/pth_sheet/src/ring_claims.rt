@@ -18,7 +18,7 @@ ghost use Rattle.pth_model.specs.RingWaits.{claims, stops_waiting, ring_seats, r
 ghost use Rattle.pth_model.specs.State.{State, now_of};
 ghost use Rattle.pth_model.specs.Transition.{tid};
 ghost use Rattle.pth_sheet.specs.Events.{event, is_in_ring, events_at, entered_by, but_those_of, handed_on_by, NoneTwice, HasRing, OnlyEventsAndSeatsChange, OnlySeatsChange};
-ghost use Rattle.pth_sheet.specs.Outcomes.{◌when◌otherwise◌};
+ghost use Rattle.pth_numbered.specs.Clauses.{◌when◌otherwise◌};
 
 use pth_base::program::Program;
 

@@ -20,7 +20,8 @@ ghost use Rattle.pth_model.specs.Io.{select_deadline, is_refused_length};
 ghost use Rattle.pth_model.specs.State.{State, now_of};
 ghost use Rattle.pth_model.specs.Times.{is_negative, moment_after, length_of};
 ghost use Rattle.pth_model.specs.declared.awaits.Awaits.TheVariants as awaits;
-ghost use Rattle.pth_sheet.specs.Outcomes.{Begins, refused, ◌when◌otherwise◌, returns, waits_for, GoesOn, canceled, ◌then◌, answers};
+ghost use Rattle.pth_sheet.specs.Outcomes.{Begins, refused, returns, waits_for, GoesOn, canceled, ◌then◌, answers};
+ghost use Rattle.pth_numbered.specs.Clauses.{◌when◌otherwise◌};
 ghost use Rattle.pth_sheet.specs.States.{unblocks, kernel_becomes};
 
 use pth_base::program::Program;

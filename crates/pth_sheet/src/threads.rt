@@ -24,7 +24,8 @@ ghost use Rattle.pth_model.specs.ThreadEnds.{must_wait};
 ghost use Rattle.pth_model.specs.Times.{is_negative, moment_after, length_of};
 ghost use Rattle.pth_model.specs.Transition.{◌and◌};
 ghost use Rattle.pth_model.specs.declared.awaits.Awaits.TheVariants as awaits;
-ghost use Rattle.pth_sheet.specs.Outcomes.{refused, Begins, ◌when◌otherwise◌, ◌then◌, returns, ◌before◌, yields, waits_for, GoesOn, canceled, cancels, answers, ends};
+ghost use Rattle.pth_sheet.specs.Outcomes.{refused, Begins, ◌then◌, returns, ◌before◌, yields, waits_for, GoesOn, canceled, cancels, answers, ends};
+ghost use Rattle.pth_numbered.specs.Clauses.{◌when◌otherwise◌};
 ghost use Rattle.pth_sheet.specs.States.{control_becomes, thread_of, entry_of, unblocks, has_none_to_join, joins_unknown, joins_detached};
 
 use pth_base::program::Program;

@@ -7,7 +7,8 @@ ghost use Rattle.pth_kernel.specs.Kernel.{is_fd_live, fd_named};
 ghost use Rattle.pth_kernel.specs.Modes.{is_mode, sets_mode};
 ghost use Rattle.pth_model.specs.State.{State, now_of};
 ghost use Rattle.pth_model.specs.Times.{is_negative, moment_after, length_of};
-ghost use Rattle.pth_sheet.specs.Outcomes.{Begins, refused, ◌when◌otherwise◌, ◌then◌, returns};
+ghost use Rattle.pth_sheet.specs.Outcomes.{Begins, refused, ◌then◌, returns};
+ghost use Rattle.pth_numbered.specs.Clauses.{◌when◌otherwise◌};
 ghost use Rattle.pth_sheet.specs.States.{kernel_becomes};
 
 use pth_base::program::Program;

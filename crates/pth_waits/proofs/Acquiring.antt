@@ -20,7 +20,8 @@ use Rattle.pth_model.specs.Row.{◌trying◌}
 use Rattle.pth_model.specs.Rwlocks.{is_lock, is_open, lets_in}
 use Rattle.pth_model.specs.State.{State}
 use Rattle.pth_model.specs.Transition.{silent, tid}
-use Rattle.pth_model.specs.Verdict.{refused, says, taken_or, ◌when◌otherwise◌}
+use Rattle.pth_model.specs.Verdict.{refused, says, taken_or}
+use Rattle.pth_numbered.specs.Clauses.{◌when◌otherwise◌}
 use Rattle.pth_world.proofs.StateOf.{stands_for_state}
 use Rattle.pth_world.specs.Keeps.{KeepsAllButStore}
 use Rattle.pth_world.specs.Leading.{Attempts, IsReady, MayComeTo, StandsOnce, Tells, Tries}

@@ -9,7 +9,8 @@ use Rattle.pth_base.specs.declared.event.EventSpec.TheVariants as of
 use Rattle.pth_base.specs.declared.errno.Errno.TheVariants.{EBADF}
 use Rattle.pth_kernel.specs.Kernel.{Kernel, advanced, next_time, fd_named, is_fd_live, is_readable, is_writeable, is_exceptional}
 use Rattle.pth_kernel.specs.Moments.{least_after, least_by}
-use Rattle.pth_io.specs.Attempts.{are_all_live, is_any_ready, is_past, select_answer, sets_answer, fails, not_yet, ◌when◌otherwise◌}
+use Rattle.pth_io.specs.Attempts.{are_all_live, is_any_ready, is_past, select_answer, sets_answer, fails, not_yet}
+use Rattle.pth_numbered.specs.Clauses.{◌when◌otherwise◌}
 use Rattle.pth_ring.specs.declared.event.Status.TheVariants.{Pending, Occurred, Failed}
 use Rattle.pth_model.specs.declared.awaits.Awaits.{Awaits}
 use Rattle.pth_model.specs.declared.awaits.Retake.{Retake}

@@ -25,7 +25,8 @@ use Rattle.pth_model.specs.Row.{Attempt, effect_of, refuses, unless_refused}
 use Rattle.pth_model.specs.Rows.{row_of}
 use Rattle.pth_model.specs.State.{State}
 use Rattle.pth_model.specs.Transition.{Last, Piece, Transition, Went, silent, tid, ◌and_finally◌}
-use Rattle.pth_model.specs.Verdict.{refused, says, ◌when◌otherwise◌}
+use Rattle.pth_model.specs.Verdict.{refused, says}
+use Rattle.pth_numbered.specs.Clauses.{◌when◌otherwise◌}
 use Rattle.pth_world.proofs.Frames.{frame_then}
 use Rattle.pth_world.proofs.Telling.{quiet-refused}
 use Rattle.pth_world.specs.Frame.{Frame, runs_after, yields_after}

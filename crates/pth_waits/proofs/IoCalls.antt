@@ -22,7 +22,8 @@ use Rattle.pth_model.specs.Row.{Attempt, Row, effect_of, refuses, unless_refused
 use Rattle.pth_model.specs.Rows.{row_of}
 use Rattle.pth_model.specs.State.{State}
 use Rattle.pth_model.specs.Transition.{Transition, changes, controlled, silent, tid}
-use Rattle.pth_model.specs.Verdict.{counts_or, refused, says, ◌when◌otherwise◌}
+use Rattle.pth_model.specs.Verdict.{refused, says}
+use Rattle.pth_numbered.specs.Clauses.{count_or, ◌when◌otherwise◌}
 use Rattle.pth_model.specs.declared.awaits.Awaits.{Awaits}
 use Rattle.pth_model.specs.declared.awaits.Awaits.TheVariants.{Nothing, Reading, Writing, Connection, ConnectAnswer, Selection}
 use Rattle.pth_model.specs.declared.verdict.Verdict.{Verdict}
@@ -161,11 +162,11 @@ module _ {P S H : Type 0} where
 -- ---- what it does
 
 -- a count refuses if nothing was written
-counted_by : (b : Bool) (n : ℕ) (e : Errno) → nat_lt 0 n ≡ b → refuses (says n when b otherwise refused e) ≡ true → n ≡ 0
+counted_by : (b : Bool) (n : ℕ) (e : Errno) → nat_lt 0 n ≡ b → refuses (Says (Int (pos n) when b otherwise Fail e)) ≡ true → n ≡ 0
 counted_by true n e part is = absurd (cc is)
 counted_by false n e part is = grind (arith, nat_tests)
 
-none_counted : (n : ℕ) (e : Errno) → refuses (counts_or n e) ≡ true → n ≡ 0
+none_counted : (n : ℕ) (e : Errno) → refuses (Says (count_or n e)) ≡ true → n ≡ 0
 none_counted n e is = counted_by (nat_lt 0 n) n e refl is
 
 refused_vain : (v : Verdict) → refuses v ≡ true → IsVain v
@@ -176,7 +177,7 @@ idle_vain : (v : Verdict) → IsIdle v → IsVain v
 idle_vain (Blocks a) idle = idle
 idle_vain v idle = absurd idle
 
-turned_away : (at_once claimed : Bool) (a : Awaits) → refuses (counts_or (written_in a) EAGAIN when at_once otherwise counts_or (written_in a) EBUSY when claimed otherwise Blocks a) ≡ true → written_in a ≡ 0
+turned_away : (at_once claimed : Bool) (a : Awaits) → refuses (Says (count_or (written_in a) EAGAIN) when at_once otherwise Says (count_or (written_in a) EBUSY) when claimed otherwise Blocks a) ≡ true → written_in a ≡ 0
 turned_away true claimed a is = none_counted (written_in a) EAGAIN is
 turned_away false true a is = none_counted (written_in a) EBUSY is
 turned_away false false a is = absurd (cc is)

@@ -11,7 +11,8 @@ use Rattle.pth_base.specs.declared.answer.Answer.{Answer}
 use Rattle.pth_kernel.specs.declared.trace.Stamp.{Stamp}
 use Rattle.pth_kernel.specs.Kernel.{Kernel, advanced, came_to, unread, room, connections, connected, is_fd_live, fd_named, is_readable, is_writeable, is_exceptional}
 use Rattle.pth_kernel.specs.Moments.{least_after, least_by}
-use Rattle.pth_io.specs.Attempts.{read_answer, write_answer, accept_answer, connect_answer, select_answer, is_any_ready, is_past, sets_answer, fails, not_yet, ◌when◌otherwise◌}
+use Rattle.pth_io.specs.Attempts.{read_answer, write_answer, accept_answer, connect_answer, select_answer, is_any_ready, is_past, sets_answer, fails, not_yet}
+use Rattle.pth_numbered.specs.Clauses.{◌when◌otherwise◌}
 use Rattle.pth_model.specs.declared.awaits.Awaits.{Awaits}
 use Rattle.pth_model.specs.declared.awaits.Awaits.TheVariants.{Reading, Writing, Connection, ConnectAnswer, Selection}
 use Rattle.pth_model.specs.Coming.{descriptors_bring}

@@ -27,7 +27,8 @@ use Rattle.pth_model.specs.Resources.{Store, answer_told, let_go, retaken, told,
 use Rattle.pth_model.specs.RingWaits.{claims, extra_ring, has_settled, is_claimed_ring, is_no_ring}
 use Rattle.pth_model.specs.State.{Control, State}
 use Rattle.pth_model.specs.Transition.{Change, Last, Piece, changes, controlled, tells, tid, ◌and_finally◌, ◌and_next◌, ◌and_then◌}
-use Rattle.pth_model.specs.Verdict.{by_result, refused, ◌when◌otherwise◌}
+use Rattle.pth_model.specs.Verdict.{by_result, refused}
+use Rattle.pth_numbered.specs.Clauses.{◌when◌otherwise◌}
 use Rattle.pth_world.specs.Frame.{Frame, runs_after, yields_after}
 use Rattle.pth_world.specs.Keeps.{KeepsAllButStore}
 use Rattle.pth_world.specs.Leading.{Goes, StandsOnce, StandsWhere}

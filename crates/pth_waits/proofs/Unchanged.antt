@@ -4,7 +4,8 @@ use Rattle.pth_base.specs.declared.answer.Answer.{Answer}
 use Rattle.pth_base.specs.declared.answer.Answer.TheVariants.{Bytes, Fail}
 use Rattle.pth_base.specs.declared.errno.Errno.{Errno}
 use Rattle.pth_base.specs.declared.errno.Errno.TheVariants.{EBADF, EIO}
-use Rattle.pth_io.specs.Attempts.{◌when◌otherwise◌, answered_or, counts, counts_or, fails, fits, not_yet, number_answer, read_after, read_answer, write_answer, write_after, written, accept_answer, accept_after, taken_by}
+use Rattle.pth_io.specs.Attempts.{answered_or, counts, fails, fits, not_yet, number_answer, read_after, read_answer, write_answer, write_after, written, accept_answer, accept_after, taken_by}
+use Rattle.pth_numbered.specs.Clauses.{◌when◌otherwise◌, count_or}
 use Rattle.pth_kernel.proofs.Changes.{unchanged}
 use Rattle.pth_kernel.specs.Entries.{is_failure}
 use Rattle.pth_kernel.specs.Kernel.{Kernel, Descriptor, came, connection_accepted, connections, earliest, fd_named, is_fd_live, room, room_used}
@@ -30,7 +31,7 @@ read_vain k f o a vain = refl
 -- ---- writes
 
 -- a write that fails is on a descriptor that takes nothing
-failed_by : (live same failed all : Bool) (done now : ℕ) (e : Errno) → (counts_or done EBADF when not live otherwise counts done when same otherwise counts_or done EIO when failed otherwise counts now when all otherwise not_yet) ≡ Some (Fail e) → (live && not failed) ≡ false
+failed_by : (live same failed all : Bool) (done now : ℕ) (e : Errno) → (Some (count_or done EBADF) when not live otherwise counts done when same otherwise Some (count_or done EIO) when failed otherwise counts now when all otherwise not_yet) ≡ Some (Fail e) → (live && not failed) ≡ false
 failed_by false same failed all done now e is = refl
 failed_by true true failed all done now e is = absurd (cc is)
 failed_by true false true all done now e is = refl

@@ -3,7 +3,7 @@
 ghost use Rattle.std.specs.Prelude.{◌≡◌, ◌<◌, ◌≤◌, ◌^◌, IfOk, OnOk};
 ghost use Rattle.pth_kernel.specs.Kernel.{kernel_of};
 ghost use Rattle.pth_model.specs.Io.{answered_or_waits, trial_for, write_trial};
-ghost use Rattle.pth_model.specs.Verdict.{counts_or};
+ghost use Rattle.pth_numbered.specs.Clauses.{count_or};
 ghost use Rattle.pth_model.specs.declared.verdict.Verdict.TheVariants.{Says};
 ghost use Rattle.pth_io.specs.Answered.{answered};
 ghost use Rattle.pth_model.specs.Coming.{descriptors_bring};
@@ -79,7 +79,7 @@ pub(crate) fn descriptors_bring(k: &Kernel, awaits: Awaits) -> bool
 /// The count if a part was written, else an error.
 pub(crate) fn count_or(written: usize, errno: Errno) -> Answer
     requires { written < 2 ^ 63 }
-    ensures { Says result ≡ counts_or written errno }
+    ensures { result ≡ count_or written errno }
 {
     if written > 0 {
         Answer::Int(written as i64)

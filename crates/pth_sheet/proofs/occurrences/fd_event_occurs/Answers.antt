@@ -6,7 +6,7 @@ use Rattle.pth_ring.specs.declared.event.Event.{Event}
 use Rattle.pth_ring.specs.Rings.{with_status, with_next_look}
 use Rattle.pth_model.specs.Looks.{found, found_by, next_look}
 use Rattle.pth_sheet.specs.Events.{failed, occurred, pending}
-use Rattle.pth_sheet.specs.Outcomes.{◌when◌otherwise◌}
+use Rattle.pth_numbered.specs.Clauses.{◌when◌otherwise◌}
 use Rattle.pth_sheet.proofs.Passes.{event_looked_at}
 use Rattle.pth_sheet.proofs.occurrences.fd_event_occurs.Goals as goal
 
