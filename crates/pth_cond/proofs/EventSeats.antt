@@ -7,9 +7,9 @@ use Rattle.std.proofs.lemmas.Bool.{cases_lt}
 use Rattle.pth_base.specs.declared.ids.EventId.{EventId}
 use Rattle.pth_cond.specs.declared.seats.Seat.{Seat}
 use Rattle.pth_cond.specs.declared.seats.Seat.TheVariants.{Await, Event}
-use Rattle.pth_cond.specs.declared.seats.Notice.TheVariants.{Unmarked, One}
+use Rattle.pth_cond.specs.declared.seats.SeatMark.TheVariants.{Unmarked, One}
 use Rattle.pth_cond.specs.declared.seats.Taken.{Taken}
-use Rattle.pth_cond.specs.Seats.{is_seat, is_at, is_event, is_one_at, has_mark, event_seats, event_seats_gone, notice_at, with_seat, without_seat, one_notified, all_notified, notified, handed_on}
+use Rattle.pth_cond.specs.Seats.{is_seat, is_at, is_event, is_one_at, has_mark, event_seats, event_seats_gone, mark_at, with_seat, without_seat, one_notified, all_notified, notified, handed_on}
 use Rattle.pth_cond.specs.Conditions.{Condition, conditions_of, has_seat_here, HasFewEvents, NoEventIsSeated, event_seats_here, all_event_seats, all_left}
 use Rattle.pth_cond.proofs.Seating.{cases, marked_all, one_more, one_here}
 
@@ -20,7 +20,7 @@ events_cons t ts = sum_by-cons (λ x. if is_event x.seat then 1 else 0) t ts
 
 -- a seat is entered
 pub events_entered : (s : Seat) (ts : List Taken) → event_seats (with_seat s ts) ≡ event_seats ts + (if is_event s then 1 else 0)
-events_entered s ts = sum_by_push (λ x. if is_event x.seat then 1 else 0) ts (record { seat = s; notice = Unmarked })
+events_entered s ts = sum_by_push (λ x. if is_event x.seat then 1 else 0) ts (record { seat = s; mark = Unmarked })
 
 -- no more than seats
 pub events_within : (ts : List Taken) → event_seats ts ≤ length ts
@@ -34,20 +34,20 @@ same_kind (Event e) (Await t) same = absurd (cc same)
 same_kind (Event e) (Event f) same = refl
 
 module _ (s : Seat) where
-  gone_here : (t : Taken) (ts : List Taken) → is_at s t ≡ true → event_seats (without_seat s (t ∷ ts)) + event_seats_gone s (notice_at s (t ∷ ts)) ≡ event_seats (t ∷ ts)
+  gone_here : (t : Taken) (ts : List Taken) → is_at s t ≡ true → event_seats (without_seat s (t ∷ ts)) + event_seats_gone s (mark_at s (t ∷ ts)) ≡ event_seats (t ∷ ts)
   gone_here t ts e =
       let left : without_seat s (t ∷ ts) ≡ ts = rw e in
-      let mark : notice_at s (t ∷ ts) ≡ Some t.notice = rw e in
+      let mark : mark_at s (t ∷ ts) ≡ Some t.mark = rw e in
       let kind = same_kind t.seat s e in
       rw (left, mark, ← kind) (omega (arith, events_cons t ts))
 
-  gone_behind : (t : Taken) (ts : List Taken) → is_at s t ≡ false → event_seats (without_seat s ts) + event_seats_gone s (notice_at s ts) ≡ event_seats ts → event_seats (without_seat s (t ∷ ts)) + event_seats_gone s (notice_at s (t ∷ ts)) ≡ event_seats (t ∷ ts)
+  gone_behind : (t : Taken) (ts : List Taken) → is_at s t ≡ false → event_seats (without_seat s ts) + event_seats_gone s (mark_at s ts) ≡ event_seats ts → event_seats (without_seat s (t ∷ ts)) + event_seats_gone s (mark_at s (t ∷ ts)) ≡ event_seats (t ∷ ts)
   gone_behind t ts e rest =
       let left : without_seat s (t ∷ ts) ≡ t ∷ without_seat s ts = rw e in
-      let mark : notice_at s (t ∷ ts) ≡ notice_at s ts = rw e in
+      let mark : mark_at s (t ∷ ts) ≡ mark_at s ts = rw e in
       rw (left, mark) (omega (arith, events_cons t ts, events_cons t (without_seat s ts)))
 
-  pub events_left : (ts : List Taken) → event_seats (without_seat s ts) + event_seats_gone s (notice_at s ts) ≡ event_seats ts
+  pub events_left : (ts : List Taken) → event_seats (without_seat s ts) + event_seats_gone s (mark_at s ts) ≡ event_seats ts
   events_left [] = refl
   events_left (t ∷ ts) = cases (is_at s t) (gone_here t ts) (λ e. gone_behind t ts e (events_left ts))
 
@@ -62,7 +62,7 @@ events_one : (ts : List Taken) → event_seats (one_notified ts) ≡ event_seats
 events_one [] = refl
 events_one (t ∷ ts) = cases (has_mark t)
     (λ e. ap event_seats (one_more t ts e) ∙ events_same t t ts (one_notified ts) refl (events_one ts))
-    (λ e. ap event_seats (one_here t ts e) ∙ events_same t (record t { notice = One }) ts ts refl refl)
+    (λ e. ap event_seats (one_here t ts e) ∙ events_same t (record t { mark = One }) ts ts refl refl)
 
 same_seat : (t : Taken) → (marked_all t).seat ≡ t.seat
 same_seat t = cases (has_mark t) (λ e. rw e) (λ e. rw e)
@@ -79,10 +79,10 @@ pub notified_lessens : (all : Bool) (ts : List Taken) → event_seats (notified 
 notified_lessens all ts = omega (arith, events_notified all ts)
 
 -- a seat is handed on
-pub events_handed_on : (s : Seat) (ts : List Taken) → event_seats (handed_on s ts) + event_seats_gone s (notice_at s ts) ≡ event_seats ts
+pub events_handed_on : (s : Seat) (ts : List Taken) → event_seats (handed_on s ts) + event_seats_gone s (mark_at s ts) ≡ event_seats ts
 events_handed_on s ts =
     let left = events_left s ts in
-    let same : event_seats (handed_on s ts) ≡ event_seats (without_seat s ts) = cases (is_one_at (notice_at s ts)) (λ e. rw e (events_one (without_seat s ts))) (λ e. rw e) in
+    let same : event_seats (handed_on s ts) ≡ event_seats (without_seat s ts) = cases (is_one_at (mark_at s ts)) (λ e. rw e (events_one (without_seat s ts))) (λ e. rw e) in
     omega arith
 
 pub handed_on_lessens : (s : Seat) (ts : List Taken) → event_seats (handed_on s ts) ≤ event_seats ts

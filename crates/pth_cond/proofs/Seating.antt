@@ -1,6 +1,6 @@
 -- The seats of a condition before and after a call.
 use Rattle.std.proofs.Common.{◌≡◌, ℕ, zero, suc, ◌+◌, ◌-◌, ◌<◌, ◌≤◌, Bool, true, false, not, if◌then◌else◌, List, [], ◌∷◌, ◌++◌, length, get_or, set, map, take, drop, Option, Some, None, refl, sym, ◌∙◌, ap, position, nat_lt, append-nil, length-append, length-drop, arith, ◌||◌}
-use Rattle.pth_cond.specs.declared.seats.Notice.{Notice}
+use Rattle.pth_cond.specs.declared.seats.SeatMark.{SeatMark}
 use Rattle.std.specs.List.{list_any, remove, position_or_len}
 use Rattle.std.proofs.lemmas.List.{length-map, length-take-le, take-append-le, get_or-append_right, get_or-drop, get_or_default, take_all, drop_all}
 use Rattle.std.proofs.lemmas.List.Edits.{map_over_more}
@@ -9,9 +9,9 @@ use Rattle.std.proofs.lemmas.List.Sums.{sum_by-cons, sum_by-remove, sum_by_push,
 use Rattle.std.proofs.lemmas.Bool.Decides.{nat_tests}
 use Rattle.std.proofs.lemmas.Bool.{true≢false, not-true}
 use Rattle.pth_cond.specs.declared.seats.Seat.{Seat}
-use Rattle.pth_cond.specs.declared.seats.Notice.TheVariants.{Unmarked, One, All}
+use Rattle.pth_cond.specs.declared.seats.SeatMark.TheVariants.{Unmarked, One, All}
 use Rattle.pth_cond.specs.declared.seats.Taken.{Taken}
-use Rattle.pth_cond.specs.Seats.{is_at, has_mark, marks, marks_stand_first, notice_at, with_seat, without_seat, one_notified, all_notified, notified, handed_on, is_one_at, SeatsAreKept, is_marked_at, is_mark}
+use Rattle.pth_cond.specs.Seats.{is_at, has_mark, marks, marks_stand_first, mark_at, with_seat, without_seat, one_notified, all_notified, notified, handed_on, is_one_at, SeatsAreKept, is_marked_at, is_mark}
 
 pub cases : {P : Type 0} (b : Bool) → (b ≡ true → P) → (b ≡ false → P) → P
 cases true whole empty = whole refl
@@ -76,7 +76,7 @@ module _ (s : Seat) where
 
   pub kept_entered : (n : ℕ) (ts : List Taken) → SeatsAreKept n ts → SeatsAreKept n (with_seat s ts)
   kept_entered n ts kept = record {
-    count = let push = sum_by_push (λ x. if has_mark x then 1 else 0) ts (record { seat = s; notice = Unmarked }) in push ∙ omega (arith, kept.count);
+    count = let push = sum_by_push (λ x. if has_mark x then 1 else 0) ts (record { seat = s; mark = Unmarked }) in push ∙ omega (arith, kept.count);
     order = order_entered ts kept.order;
   }
 
@@ -85,7 +85,7 @@ module _ (s : Seat) where
 -- the first of a seat stands at i
 pub record IsLeftAt (s : Seat) (ts : List Taken) (i : ℕ) (t : Taken) : Type 0 where
   pub left : without_seat s ts ≡ remove ts i
-  pub mark : notice_at s ts ≡ Some t.notice
+  pub mark : mark_at s ts ≡ Some t.mark
 
 module _ (s : Seat) where
   at_first : (ts : List Taken) (i : ℕ) (d : Taken) → i < length ts → is_at s (get_or ts i d) ≡ true → ((k : ℕ) → k < i → is_at s (get_or ts k d) ≡ false) → IsLeftAt s ts i (get_or ts i d)
@@ -99,7 +99,7 @@ module _ (s : Seat) where
   pub left_at : (ts : List Taken) (i : ℕ) (d : Taken) → position (is_at s) ts ≡ Some i → IsLeftAt s ts i (get_or ts i d)
   left_at ts i d is = let found = position-Some (is_at s) ts i d is in at_first ts i d found.0 found.1 found.2
 
-  not_first : (ts : List Taken) (d : Taken) → ((k : ℕ) → k < length ts → is_at s (get_or ts k d) ≡ false) → (without_seat s ts ≡ ts) × (notice_at s ts ≡ None)
+  not_first : (ts : List Taken) (d : Taken) → ((k : ℕ) → k < length ts → is_at s (get_or ts k d) ≡ false) → (without_seat s ts ≡ ts) × (mark_at s ts ≡ None)
   not_first [] d none = (refl, refl)
   not_first (t ∷ ts) d none =
       let apart : is_at s t ≡ false = none 0 (omega arith) in
@@ -147,15 +147,15 @@ not_below p ts none = cases (nat_lt (position_or_len p ts) (length ts))
     (λ e. let h : Some (position_or_len p ts) ≡ None = rw e at none in cc)
     (λ e. grind (arith, nat_tests))
 
-pub not_left : (s : Seat) (ts : List Taken) → position (is_at s) ts ≡ None → (without_seat s ts ≡ ts) × (notice_at s ts ≡ None)
+pub not_left : (s : Seat) (ts : List Taken) → position (is_at s) ts ≡ None → (without_seat s ts ≡ ts) × (mark_at s ts ≡ None)
 not_left s ts none =
     let past = not_below (is_at s) ts none in
-    let other : Taken = record { seat = s; notice = Unmarked } in
+    let other : Taken = record { seat = s; mark = Unmarked } in
     not_first s ts other (λ k low. fails_before_first (is_at s) ts k other (omega arith))
 
 -- ---- the first without a mark is notified
 
-pub one_set : (ts : List Taken) (n : ℕ) (d : Taken) → marks ts ≡ n → marks_stand_first ts ≡ true → n < length ts → set ts n (record (get_or ts n d) { notice = One }) ≡ one_notified ts
+pub one_set : (ts : List Taken) (n : ℕ) (d : Taken) → marks ts ≡ n → marks_stand_first ts ≡ true → n < length ts → set ts n (record (get_or ts n d) { mark = One }) ≡ one_notified ts
 one_set [] n d count order low = absurd (omega arith)
 one_set (t ∷ ts) zero d count order low = cases (has_mark t)
     (λ e. let more = marks_more t ts e in absurd (omega arith))
@@ -174,14 +174,14 @@ one_past (t ∷ ts) all = cases (has_mark t)
 pub one_more : (t : Taken) (ts : List Taken) → has_mark t ≡ true → one_notified (t ∷ ts) ≡ t ∷ one_notified ts
 one_more t ts e = rw e
 
-pub one_here : (t : Taken) (ts : List Taken) → has_mark t ≡ false → one_notified (t ∷ ts) ≡ record t { notice = One } ∷ ts
+pub one_here : (t : Taken) (ts : List Taken) → has_mark t ≡ false → one_notified (t ∷ ts) ≡ record t { mark = One } ∷ ts
 one_here t ts e = rw e
 
 one_counted : (ts : List Taken) → marks ts < length ts → marks (one_notified ts) ≡ marks ts + 1
 one_counted [] low = absurd (omega arith)
 one_counted (t ∷ ts) low = cases (has_mark t)
     (λ e. let more = marks_more t ts e in let rest = one_counted ts (omega arith) in ap marks (one_more t ts e) ∙ marks_more t (one_notified ts) e ∙ omega arith)
-    (λ e. let same = marks_same t ts e in ap marks (one_here t ts e) ∙ marks_more (record t { notice = One }) ts refl ∙ omega arith)
+    (λ e. let same = marks_same t ts e in ap marks (one_here t ts e) ∙ marks_more (record t { mark = One }) ts refl ∙ omega arith)
 
 pub order_one : (ts : List Taken) → marks_stand_first ts ≡ true → marks_stand_first (one_notified ts) ≡ true
 order_one [] order = refl
@@ -210,7 +210,7 @@ written_one n long ts news rest kept low same is =
 -- ---- each without a mark is notified
 
 abbrev pub marked_all : Taken → Taken
-marked_all t = if has_mark t then t else record t { notice = All }
+marked_all t = if has_mark t then t else record t { mark = All }
 
 has_all : (t : Taken) → has_mark (marked_all t) ≡ true
 has_all t = cases (has_mark t) (λ e. rw e e) (λ e. rw e)
@@ -258,10 +258,10 @@ module _ (ts us : List Taken) (i : ℕ) (d : Taken) (order : marks_stand_first t
   here : get_or us i d ≡ get_or ts i d
   here = ap (λ (xs : List Taken). get_or xs i d) now ∙ get_or-append_right (map marked_all (take i ts)) (drop i ts) i i d long (omega arith) ∙ get_or-drop i ts (i - i) d ∙ ap (λ (k : ℕ). get_or ts k d) (omega arith)
 
-  pub all_more : set us i (record (get_or us i d) { notice = All }) ≡ map marked_all (take (i + 1) ts) ++ drop (i + 1) ts
+  pub all_more : set us i (record (get_or us i d) { mark = All }) ≡ map marked_all (take (i + 1) ts) ++ drop (i + 1) ts
   all_more =
       let none : has_mark (get_or us i d) ≡ false = ap has_mark here ∙ unmarked_at ts i d order from low in
-      let is : marked_all (get_or us i d) ≡ record (get_or us i d) { notice = All } = rw none in
+      let is : marked_all (get_or us i d) ≡ record (get_or us i d) { mark = All } = rw none in
       let same : length us ≡ length ts = ap length now ∙ simp (length-append, length-map) (omega (arith, length-take-le i ts (omega arith), length-drop i ts)) in
       ap (set us i) (sym is) ∙ map_over_more marked_all ts us i (get_or us i d) low now (get_or_default us i d (get_or us i d) (omega arith))
 
@@ -273,34 +273,34 @@ order_notified true ts order = (kept_all ts).order
 order_notified false ts order = order_one ts order
 
 pub order_handed_on : (s : Seat) (ts : List Taken) → marks_stand_first ts ≡ true → marks_stand_first (handed_on s ts) ≡ true
-order_handed_on s ts order = cases (is_one_at (notice_at s ts))
+order_handed_on s ts order = cases (is_one_at (mark_at s ts))
     (λ e. rw e (order_one (without_seat s ts) (order_left s ts order)))
     (λ e. rw e (order_left s ts order))
 
 -- ---- a seat has a mark exactly if it stands among those that have one
 
 -- one seat more, with what is known of the others
-none_marked_by : (at marked : Bool) (n : Notice) (o : Option Notice) (any : Bool) → is_mark n ≡ marked → (marked || any) ≡ false → (any ≡ false → is_marked_at o ≡ false) → is_marked_at (if at then Some n else o) ≡ false
+none_marked_by : (at marked : Bool) (n : SeatMark) (o : Option SeatMark) (any : Bool) → is_mark n ≡ marked → (marked || any) ≡ false → (any ≡ false → is_marked_at o ≡ false) → is_marked_at (if at then Some n else o) ≡ false
 none_marked_by at true n o any is none rest = absurd (cc none)
 none_marked_by true false n o any is none rest = is
 none_marked_by false false n o any is none rest = rest none
 
-none_marked : (s : Seat) (ts : List Taken) → list_any has_mark ts ≡ false → is_marked_at (notice_at s ts) ≡ false
+none_marked : (s : Seat) (ts : List Taken) → list_any has_mark ts ≡ false → is_marked_at (mark_at s ts) ≡ false
 none_marked s [] none = refl
-none_marked s (t ∷ ts) none = none_marked_by (is_at s t) (has_mark t) t.notice (notice_at s ts) (list_any has_mark ts) refl none (none_marked s ts)
+none_marked s (t ∷ ts) none = none_marked_by (is_at s t) (has_mark t) t.mark (mark_at s ts) (list_any has_mark ts) refl none (none_marked s ts)
 
-more_first : (at : Bool) (n : Notice) (o : Option Notice) (any : Bool) → is_mark n ≡ true → any ≡ is_marked_at o → (at || any) ≡ is_marked_at (if at then Some n else o)
+more_first : (at : Bool) (n : SeatMark) (o : Option SeatMark) (any : Bool) → is_mark n ≡ true → any ≡ is_marked_at o → (at || any) ≡ is_marked_at (if at then Some n else o)
 more_first true n o any marked same = sym marked
 more_first false n o any marked same = same
 
-pub marked_first : (s : Seat) (ts : List Taken) → marks_stand_first ts ≡ true → list_any (is_at s) (take (marks ts) ts) ≡ is_marked_at (notice_at s ts)
+pub marked_first : (s : Seat) (ts : List Taken) → marks_stand_first ts ≡ true → list_any (is_at s) (take (marks ts) ts) ≡ is_marked_at (mark_at s ts)
 marked_first s [] order = refl
 marked_first s (t ∷ ts) order = by_mark (has_mark t) refl (marked_first s ts)
   where
-    by_mark : (b : Bool) → has_mark t ≡ b → (marks_stand_first ts ≡ true → list_any (is_at s) (take (marks ts) ts) ≡ is_marked_at (notice_at s ts)) → list_any (is_at s) (take (marks (t ∷ ts)) (t ∷ ts)) ≡ is_marked_at (notice_at s (t ∷ ts))
+    by_mark : (b : Bool) → has_mark t ≡ b → (marks_stand_first ts ≡ true → list_any (is_at s) (take (marks ts) ts) ≡ is_marked_at (mark_at s ts)) → list_any (is_at s) (take (marks (t ∷ ts)) (t ∷ ts)) ≡ is_marked_at (mark_at s (t ∷ ts))
     by_mark true e rest =
         let others = rest (rw e at order) in
-        rw (marks_more t ts e) (more_first (is_at s t) t.notice (notice_at s ts) (list_any (is_at s) (take (marks ts) ts)) e others)
+        rw (marks_more t ts e) (more_first (is_at s t) t.mark (mark_at s ts) (list_any (is_at s) (take (marks ts) ts)) e others)
     by_mark false e rest =
         let none = not-true (list_any has_mark ts) (rw e at order) in
         let few : marks (t ∷ ts) ≡ 0 = marks_same t ts e ∙ none_counted ts none in

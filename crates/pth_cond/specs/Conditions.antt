@@ -9,7 +9,7 @@ use Rattle.pth_lock.specs.Objects.{object_limit, object_named, is_object}
 use Rattle.pth_cond.specs.declared.seats.Seat.{Seat}
 use Rattle.pth_cond.specs.declared.seats.Seat.TheVariants.{Event}
 use Rattle.pth_cond.specs.declared.seats.Taken.{Taken}
-use Rattle.pth_cond.specs.Seats.{is_at, notice_at, is_marked_at, marks_stand_first, event_seats, with_seat, without_seat, notified, handed_on}
+use Rattle.pth_cond.specs.Seats.{is_at, mark_at, is_marked_at, marks_stand_first, event_seats, with_seat, without_seat, notified, handed_on}
 
 -- a condition: none where it is not initialised, and else its seats in order of entry
 abbrev pub Condition : Type 0
@@ -22,12 +22,12 @@ ConditionTable = ℕ → Condition
 -- ---- tests
 
 -- a condition is initialised
-abbrev pub is_live : ConditionTable → ℤ → Bool
-is_live x c = is_some (x (object_named c))
+abbrev pub is_initialised : ConditionTable → ℤ → Bool
+is_initialised x c = is_some (x (object_named c))
 
 -- a seat of a condition has a mark
 abbrev pub is_marked_in : Seat → Condition → Bool
-is_marked_in s (Some ts) = is_marked_at (notice_at s ts)
+is_marked_in s (Some ts) = is_marked_at (mark_at s ts)
 is_marked_in s None = false
 
 abbrev pub is_marked : ConditionTable → ℤ → Seat → Bool
@@ -51,7 +51,7 @@ NoEventIsSeated x = (c : ℕ) (e : EventId) → has_seat x c (Event e) ≡ false
 abbrev pub cond_init_answer : ConditionTable → ℤ → Result (Unit {0}) Errno
 cond_init_answer x c =
     if not (is_object c) then Err EINVAL else
-    if is_live x c then Err EBUSY else
+    if is_initialised x c then Err EBUSY else
     Ok tt
 
 -- what needs an initialised condition

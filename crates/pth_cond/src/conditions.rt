@@ -3,9 +3,9 @@
 ghost use Rattle.std.specs.Prelude.{◌≡◌, ◌<◌, ◌^◌, false, nat_lt, length, if◌then◌else◌, OnOk, OnErr};
 ghost use Rattle.pth_store.specs.Storing.{AnswersWithMemory};
 ghost use Rattle.pth_cond.specs.Seats.{with_seat, without_seat, notified, handed_on, is_event, event_seats_gone, HandingOnKeepsOnes};
-ghost use Rattle.pth_cond.specs.Conditions.{conditions_of, is_live, is_marked_in, is_marked, IsAnyLive, HasFewEvents, NoEventIsSeated, ConditionsAreSound, all_event_seats, live_answer, cond_init_answer, cond_enter_answer, cond_notify_answer, no_conditions, cond_initialised, with_seats, seat_entered, seat_left, seat_handed_on, cond_notified, all_left, all_seats_left};
+ghost use Rattle.pth_cond.specs.Conditions.{conditions_of, is_initialised, is_marked_in, is_marked, IsAnyLive, HasFewEvents, NoEventIsSeated, ConditionsAreSound, all_event_seats, live_answer, cond_init_answer, cond_enter_answer, cond_notify_answer, no_conditions, cond_initialised, with_seats, seat_entered, seat_left, seat_handed_on, cond_notified, all_left, all_seats_left};
 
-use crate::seats::{Notice, Seat, Seats};
+use crate::seats::{SeatMark, Seat, Seats};
 use pth_base::errno::Errno;
 use pth_base::refusal::Refusal;
 use pth_lock::objects::{MOST_OBJECTS, place_of};
@@ -88,7 +88,7 @@ impl Conds {
 
     /// Whether a condition is initialised.
     pub fn is_live(&self, c: i64) -> bool
-        ensures answer { result ≡ is_live (conditions_of self.now) c }
+        ensures answer { result ≡ is_initialised (conditions_of self.now) c }
         ensures sound { ConditionsAreSound (conditions_of self.now) }
     {
         match place_of(c) {
@@ -193,7 +193,7 @@ fn events_come(seat: Seat) -> u128
 }
 
 // How many seats of events go with a seat that is left, of which this was the mark.
-fn events_gone(seat: Seat, mark: Option<Notice>) -> u128
+fn events_gone(seat: Seat, mark: Option<SeatMark>) -> u128
     ensures { result ≡ event_seats_gone seat mark }
 {
     if mark.is_some() && seat.is_event() {

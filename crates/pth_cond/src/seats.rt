@@ -2,7 +2,7 @@
 
 ghost use Rattle.std.specs.Prelude.{◌≡◌, ◌<◌, ◌^◌, length, [], position, OnOk, OnErr};
 ghost use Rattle.std.specs.List.{list_any};
-ghost use Rattle.pth_cond.specs.Seats.{is_seat, is_at, is_mark, notice_at, is_marked_at, with_seat, without_seat, one_notified, all_notified, notified, handed_on, is_event, seat_number, SeatsAreKept};
+ghost use Rattle.pth_cond.specs.Seats.{is_seat, is_at, is_mark, mark_at, is_marked_at, with_seat, without_seat, one_notified, all_notified, notified, handed_on, is_event, seat_number, SeatsAreKept};
 
 use pth_base::ids::{EventId, Tid};
 use pth_base::memory::OutOfMemory;
@@ -44,7 +44,7 @@ impl Seat {
 
 /// The mark of a seat: what was notified since it was entered.
 #[derive(Clone, Copy)]
-pub enum Notice {
+pub enum SeatMark {
     /// Nothing.
     Unmarked,
     /// It alone (`pth_cond_notify` of one).
@@ -53,12 +53,12 @@ pub enum Notice {
     All,
 }
 
-impl Notice {
+impl SeatMark {
     // Whether something was notified.
     fn is_mark(self) -> bool
         ensures { result ≡ is_mark self }
     {
-        !matches!(self, Notice::Unmarked)
+        !matches!(self, SeatMark::Unmarked)
     }
 }
 
@@ -66,7 +66,7 @@ impl Notice {
 #[derive(Clone, Copy)]
 pub struct Taken {
     pub seat: Seat,
-    pub notice: Notice,
+    pub mark: SeatMark,
 }
 
 // The seats of a condition in order of entry, those with a mark first. Only `enter` takes memory.
@@ -117,34 +117,34 @@ impl Seats {
     {
         self.taken.push(Taken {
             seat,
-            notice: Notice::Unmarked,
+            mark: SeatMark::Unmarked,
         })?;
         Ok(())
     }
 
     // A seat is left. The answer is its mark, None where nobody has it.
-    pub(crate) fn leave(&mut self, seat: Seat) -> Option<Notice>
-        ensures mark { result ≡ notice_at seat self.old }
+    pub(crate) fn leave(&mut self, seat: Seat) -> Option<SeatMark>
+        ensures mark { result ≡ mark_at seat self.old }
         ensures changes { self.new ≡ without_seat seat self.old }
     {
         let Some(place) = place_of_seat(&self.taken, seat) else {
             return None;
         };
         let gone = self.taken.remove(place);
-        if gone.notice.is_mark() {
+        if gone.mark.is_mark() {
             self.marked -= 1;
         }
-        Some(gone.notice)
+        Some(gone.mark)
     }
 
     // A seat is left, and its mark One goes to the first seat without a mark. The answer is the mark that it had, None where
     // nobody has it.
-    pub(crate) fn hand_on(&mut self, seat: Seat) -> Option<Notice>
-        ensures mark { result ≡ notice_at seat self.old }
+    pub(crate) fn hand_on(&mut self, seat: Seat) -> Option<SeatMark>
+        ensures mark { result ≡ mark_at seat self.old }
         ensures changes { self.new ≡ handed_on seat self.old }
     {
         let mark = self.leave(seat);
-        if let Some(Notice::One) = mark {
+        if let Some(SeatMark::One) = mark {
             self.notify_one();
         }
         mark
@@ -181,7 +181,7 @@ impl Seats {
 
     // Whether a seat has a mark: those that have one stand first, and only they are looked at.
     pub(crate) fn is_marked(&self, seat: Seat) -> bool
-        ensures { result ≡ is_marked_at (notice_at seat self.now) }
+        ensures { result ≡ is_marked_at (mark_at seat self.now) }
     {
         stands_among(&self.taken[..self.marked], seat)
     }
@@ -222,7 +222,7 @@ fn mark_first(taken: &mut [Taken], marked: usize)
     requires some { marked < length taken.old }
     ensures { taken.new ≡ one_notified taken.old }
 {
-    taken[marked].notice = Notice::One;
+    taken[marked].mark = SeatMark::One;
 }
 
 // Each seat without a mark has the mark All.
@@ -231,6 +231,6 @@ fn mark_rest(taken: &mut [Taken], marked: usize)
     ensures { taken.new ≡ all_notified taken.old }
 {
     for i in marked..taken.len() {
-        taken[i].notice = Notice::All;
+        taken[i].mark = SeatMark::All;
     }
 }

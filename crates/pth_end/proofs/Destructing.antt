@@ -6,7 +6,7 @@ use Rattle.pth_base.specs.declared.ids.Tid.{Tid}
 use Rattle.pth_base.specs.declared.mark.Mark.{Mark}
 use Rattle.pth_base.specs.declared.mark.Mark.TheVariants.{Destructor}
 use Rattle.pth_model.specs.declared.destructors.Due.{Due}
-use Rattle.pth_model.specs.declared.destructors.Round.{Round}
+use Rattle.pth_model.specs.declared.destructors.DestructorRound.{DestructorRound}
 use Rattle.pth_model.specs.Ending.{destructs, destructs_by, next_destructor, runs_destructor}
 use Rattle.pth_model.specs.Resources.{Store, told, with_keys}
 use Rattle.pth_model.specs.State.{State}
@@ -22,7 +22,7 @@ pub destructor_tells : {P S H : Type 0} (w v : WorldOf P S H) (t : Tid) (k : ℕ
 unfolding told
 destructor_tells w v t k x changes r has = ap (with_keys (with_key_value t.0 k (pos 0))) has ∙ sym changes
 
-module _ {P S H : Type 0} (f : P → Functions S H) (t : ℕ) (w : WorldOf P S H) (s : State P S H) (st : StandsFor w s) (r : Round) where
+module _ {P S H : Type 0} (f : P → Functions S H) (t : ℕ) (w : WorldOf P S H) (s : State P S H) (st : StandsFor w s) (r : DestructorRound) where
   -- the next one, by what the world has stored
   abbrev next : Option Due
   next = next_destructor (store_of w.store).keys t r

@@ -2,11 +2,11 @@
 use Rattle.std.proofs.Common.{◌≡◌, ◌+◌, nat_lt, ℕ, ℤ, Bool, true, false, Option, Some, None, refl, ap}
 use Rattle.pth_base.specs.declared.ids.HandlerId.{HandlerId}
 use Rattle.pth_model.specs.declared.destructors.Due.{Due}
-use Rattle.pth_model.specs.declared.destructors.Round.{Round}
+use Rattle.pth_model.specs.declared.destructors.DestructorRound.{DestructorRound}
 use Rattle.pth_model.specs.Ending.{due, due_by, next_destructor, round_limit}
 use Rattle.pth_store.specs.Keys.{Tables, first_live}
 
-module _ (x : Tables) (t : ℕ) (r : Round) where
+module _ (x : Tables) (t : ℕ) (r : DestructorRound) where
   -- one is owed in this round
   pub due_now : (o : ℕ × HandlerId × ℤ) (d : Due) → d ≡ due r.number o → first_live x t r.from ≡ Some o → Some d ≡ next_destructor x t r
   unfolding next_destructor

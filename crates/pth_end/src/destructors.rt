@@ -15,7 +15,7 @@ use pth_base::mark::Mark;
 use pth_base::marks::Marks;
 use pth_base::memory::OutOfMemory;
 use pth_base::program::Program;
-use pth_model::destructors::{Due, Round};
+use pth_model::destructors::{Due, DestructorRound};
 use pth_world::world::World;
 
 /// How many rounds of destructors a thread begins at most (`PTH_DESTRUCTOR_ITERATIONS`).
@@ -25,7 +25,7 @@ const MOST_ROUNDS: u8 = 4;
 const MOST_DESTRUCTORS: u32 = 1024;
 
 // Before the first destructor.
-const FIRST_ROUND: Round = Round { number: 1, from: 0 };
+const FIRST_ROUND: DestructorRound = DestructorRound { number: 1, from: 0 };
 
 // A destructor that is owed a value, in a round.
 fn due(number: u8, owed: (u8, HandlerId, i64)) -> Due
@@ -36,7 +36,7 @@ fn due(number: u8, owed: (u8, HandlerId, i64)) -> Due
         key,
         handler,
         value,
-        round: Round {
+        round: DestructorRound {
             number,
             from: key as u16 + 1,
         },
@@ -44,7 +44,7 @@ fn due(number: u8, owed: (u8, HandlerId, i64)) -> Due
 }
 
 // The destructor that a thread runs next: the first that is owed in this round, else the first of one more round.
-fn next_destructor<P: Program>(w: &World<P>, t: Tid, round: Round) -> Option<Due>
+fn next_destructor<P: Program>(w: &World<P>, t: Tid, round: DestructorRound) -> Option<Due>
     requires whole { WellFormed w.now }
     requires alive { IsAlive w.now.threads t.0 }
     requires few { round.number ≤ round_limit }
@@ -87,7 +87,7 @@ fn run_from<P: Program>(
     w: &mut World<P>,
     t: Tid,
     left: u32,
-    round: Round,
+    round: DestructorRound,
     marks: &mut Marks,
 ) -> Result<(), OutOfMemory>
     requires whole { WellFormed w.old }

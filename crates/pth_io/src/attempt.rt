@@ -1,6 +1,6 @@
 //! What an attempt comes to.
 
-ghost use Rattle.std.specs.Prelude.{◌≡◌, ◌<◌, ◌^◌};
+ghost use Rattle.std.specs.Prelude.{◌≡◌, ◌<◌, ◌^◌, Some};
 ghost use Rattle.pth_io.specs.Answered.{answered};
 ghost use Rattle.pth_io.specs.Attempts.{fails, counts};
 ghost use Rattle.pth_numbered.specs.Clauses.{count_or};

@@ -20,7 +20,7 @@ use Rattle.pth_base.proofs.Tables.{put_by, put_here}
 use Rattle.pth_numbered.specs.Operands.{number, ◌is◌}
 use Rattle.pth_cond.specs.declared.barriers.Arrival.{Arrival}
 use Rattle.pth_cond.specs.declared.barriers.Arrival.TheVariants as arrival
-use Rattle.pth_cond.specs.Conditions.{ConditionTable, is_live, seat_entered}
+use Rattle.pth_cond.specs.Conditions.{ConditionTable, is_initialised, seat_entered}
 use Rattle.pth_cond.specs.Barriers.{arrival_answer, has_passed, waits_at, round_answer, round_answered, withdrawn}
 use Rattle.pth_lock.specs.Objects.{object_named}
 use Rattle.pth_lock.specs.Mutexes.{Mutex, owner_of, levels_of, level_limit, take_answer, is_anothers}
@@ -478,7 +478,7 @@ module _ {P S H : Type 0} (f : P → Functions S H) (t : ℕ) where
   allowed s (call.CondAwait c m e) free uncanceled made =
       let row = (row_of f s t (call.CondAwait c m e)).begin in
       let same = seats_unless (refuses row.verdict) (seat_entered c (seat_of t)) s in
-      await_allowed s (effect_of row s).state c m e (is_no_ring s (extra_ring e)) (is_none (mutex s m)) _ _ (is_claimed_ring s (extra_ring e)) refl refl refl same.0 same.1 (free_after s (call.CondAwait c m e) refl free) (ap (λ (k : Resources). k.awaits t) same.1 ∙ uncanceled) (not (is_live s.control.conditions c))
+      await_allowed s (effect_of row s).state c m e (is_no_ring s (extra_ring e)) (is_none (mutex s m)) _ _ (is_claimed_ring s (extra_ring e)) refl refl refl same.0 same.1 (free_after s (call.CondAwait c m e) refl free) (ap (λ (k : Resources). k.awaits t) same.1 ∙ uncanceled) (not (is_initialised s.control.conditions c))
   allowed s (call.BarrierReach b) free uncanceled made = reach_allowed s b (arrival_answer s.control.barriers b) (effect_of (row_of f s t (call.BarrierReach b)).begin s).state (free_after s (call.BarrierReach b) refl free)
   allowed s c free uncanceled made = allowed_by t c (row_of f s t c).begin.verdict (effect_of (row_of f s t c).begin s).state refl (λ a blocks. (free_after s c refl free, waits_plainly t c a (effect_of (row_of f s t c).begin s).state refl))
 

@@ -32,7 +32,7 @@ use Rattle.pth_base.specs.Chain.{StandsIn}
 use Rattle.pth_base.proofs.Tables.{put_here, same_fails}
 use Rattle.pth_cond.specs.declared.barriers.Arrival.{Arrival}
 use Rattle.pth_cond.specs.declared.barriers.Arrival.TheVariants as arrival
-use Rattle.pth_cond.specs.Conditions.{ConditionTable, is_live, cond_notified, seat_entered, seat_left, seat_handed_on}
+use Rattle.pth_cond.specs.Conditions.{ConditionTable, is_initialised, cond_notified, seat_entered, seat_left, seat_handed_on}
 use Rattle.pth_cond.specs.declared.seats.Seat.{Seat}
 use Rattle.pth_cond.specs.Barriers.{BarrierTable, is_size, taillight, arrival_answer, has_passed, waits_at, barrier_initialised, barrier_reached, round_answer, round_answered, withdrawn}
 use Rattle.pth_kernel.specs.Kernel.{Kernel, advanced}
@@ -59,7 +59,7 @@ use Rattle.pth_model.specs.declared.awaits.Retake.{Retake}
 use Rattle.pth_model.specs.declared.awaits.Retake.TheVariants as retake
 use Rattle.pth_model.specs.declared.blocked.Blocked.{Blocked}
 use Rattle.pth_model.specs.declared.destructors.Due.{Due}
-use Rattle.pth_model.specs.declared.destructors.Round.{Round}
+use Rattle.pth_model.specs.declared.destructors.DestructorRound.{DestructorRound}
 use Rattle.pth_model.specs.declared.next.Next.{Next}
 use Rattle.pth_model.specs.declared.next.Next.TheVariants as next
 use Rattle.pth_model.specs.declared.progress.Progress.{Progress}
@@ -230,7 +230,7 @@ pub record Kept {P S H : Type 0} (all : Bool) (f : P → Functions S H) (R : Sta
   -- no call blocks t any longer, and its arrival, or its seat, may be lost with this
   pub stopped : (t : ℕ) (x : BarrierTable) (y : ConditionTable) (s : State P S H) → HasFewer x s.control.barriers → HasOthers t x s.control.barriers → KeepsOtherSeats t y s.control.conditions → HasLeft t (controlled (with_barriers (λ z. x)) s) → HasLeftSeat t y s → R s → R (controlled (λ k. stops_waiting t (with_conditions (λ z. y) (with_barriers (λ z. x) k))) s)
   -- t takes a seat at a condition, which is initialised, and waits there, as is told
-  pub takes_seat : (t : ℕ) (c m e : ℤ) (s : State P S H) → IsFree t s → lives (s.control.threads.known t) ≡ true → (is_some (s.control.threads.progress t) ≡ true) × (is_live s.control.conditions c ≡ true) → MayWait t (call.CondAwait c m e) (awaits.Notice c) s → R s → R (tells (mark.Waits (tid t) (call.CondAwait c m e)) (controlled (λ k. blocks t (call.CondAwait c m e) (awaits.Notice c) (claims t (extra_ring e) (with_conditions (seat_entered c (seat_of t)) k))) s)).state
+  pub takes_seat : (t : ℕ) (c m e : ℤ) (s : State P S H) → IsFree t s → lives (s.control.threads.known t) ≡ true → (is_some (s.control.threads.progress t) ≡ true) × (is_initialised s.control.conditions c ≡ true) → MayWait t (call.CondAwait c m e) (awaits.Notice c) s → R s → R (tells (mark.Waits (tid t) (call.CondAwait c m e)) (controlled (λ k. blocks t (call.CondAwait c m e) (awaits.Notice c) (claims t (extra_ring e) (with_conditions (seat_entered c (seat_of t)) k))) s)).state
   -- its wait there is over, its seat may be lost with this, and it waits for its mutex
   pub retakes : (t : ℕ) (c m e : ℤ) (a : Awaits) (o : Retake) (y : ConditionTable) (s : State P S H) → KeepsOtherSeats t y s.control.conditions → HasLeftSeat t y s → blocked_of s.control t ≡ Some (record { call = call.CondAwait c m e; awaits = a }) → R s → R (controlled (λ k. blocks t (call.CondAwait c m e) (awaits.Retaking m o) (stops_waiting t (with_conditions (λ z. y) k))) s)
 
@@ -377,13 +377,13 @@ module _ {P S H : Type 0} (f : P → Functions S H) (R : State P S H → Type 0)
   each_keep t [] s r = r
   each_keep t (c ∷ cs) s r = then_runs (runs_handler f t c.0 c.1) (runs_each f t cs) (handler_keeps t c.0 c.1) (each_keep t cs) s r
 
-  due_keeps : (t : ℕ) (o : Option Due) (next : Round → Piece P S H) → ((i : Round) → Runs (next i)) → Runs (destructs_by f t o next)
+  due_keeps : (t : ℕ) (o : Option Due) (next : DestructorRound → Piece P S H) → ((i : DestructorRound) → Runs (next i)) → Runs (destructs_by f t o next)
   due_keeps t None next keeps s r = r
   due_keeps t (Some d) next keeps s r =
       let m = mark.Destructor (tid t) d.key d.value in
       keeps d.round _ (acts_keep t d.handler d.value (suc act_limit) 0 (tells m s).state (kept.told m s tt r))
 
-  destructs_keep : (t n : ℕ) (i : Round) → Runs (destructs f t n i)
+  destructs_keep : (t n : ℕ) (i : DestructorRound) → Runs (destructs f t n i)
   unfolding destructs
   destructs_keep t zero i s r = r
   destructs_keep t (suc n) i s r = due_keeps t (next_destructor s.resources.store.keys t i) (destructs f t n) (destructs_keep t n) s r
@@ -740,7 +740,7 @@ module _ {P S H : Type 0} (f : P → Functions S H) (R : State P S H → Type 0)
     does_keeps s (call.Accept d) free sound other e r = kept.timed _ s r
     does_keeps s (call.AcceptEv d x) free sound other e r = kept.timed _ s r
     does_keeps s (call.Close d) free sound other e r = kept.timed _ s r
-    does_keeps s (call.CondInit c) free sound other e r = kept.handlers.seated _ s (keeps_initialised c s.control.conditions (init_passes (is_object c) (is_live s.control.conditions c) e)) r
+    does_keeps s (call.CondInit c) free sound other e r = kept.handlers.seated _ s (keeps_initialised c s.control.conditions (init_passes (is_object c) (is_initialised s.control.conditions c) e)) r
     does_keeps s (call.CondNotify c v) free sound other e r = kept.handlers.seated _ s (keeps_notified c (not (is_zero v)) s.control.conditions) r
     does_keeps s (call.CondAwait c m i) free sound other e r = absurd (true≢false other)
     does_keeps s (call.BarrierInit b n) free sound other e r = kept.barred (barrier_initialised b n s.control.barriers) s (fewer_initialised b n s.control.barriers) (all_initialised b n s.control.barriers (init_passes (is_object b && is_size n) (is_some (s.control.barriers (object_named b))) e)) r
@@ -766,7 +766,7 @@ module _ {P S H : Type 0} (f : P → Functions S H) (R : State P S H → Type 0)
         kept.handlers.told (mark.Waits (tid t) (call.BarrierReach b)) (controlled (λ k. blocks t (call.BarrierReach b) (awaits.Round b round) (with_barriers (barrier_reached b t) k)) s) tt (kept.reached t b round s free sound.alive there same r)
 
     -- a wait at a condition begins
-    await_keeps : (c m e : ℤ) (live bad none free_now other has : Bool) (s : State P S H) → is_live s.control.conditions c ≡ live → is_none (mutex s m) ≡ none → is_no_ring s (extra_ring e) ≡ bad → is_claimed_ring s (extra_ring e) ≡ has → IsFree t s → IsSound t s.control → s.resources.awaits t ≡ false → is_some (s.control.threads.progress t) ≡ true → R s
+    await_keeps : (c m e : ℤ) (live bad none free_now other has : Bool) (s : State P S H) → is_initialised s.control.conditions c ≡ live → is_none (mutex s m) ≡ none → is_no_ring s (extra_ring e) ≡ bad → is_claimed_ring s (extra_ring e) ≡ has → IsFree t s → IsSound t s.control → s.resources.awaits t ≡ false → is_some (s.control.threads.progress t) ≡ true → R s
         → R (begun_as f t (call.CondAwait c m e) (refused EINVAL when not live || bad otherwise by_result (λ released. refused EBUSY when has otherwise Blocks (awaits.Notice c)) (if none then Err EINVAL else if free_now then Err EDEADLK else if other then Err EACCES else Ok (tt {0})) trying changes (with_conditions (seat_entered c (seat_of t)))) s).told.state
     await_keeps c m e false bad none free_now other has s is_live_so is_none_so is_ring is_has free sound uncanceled there r = kept.handlers.told (mark.Answered (tid t) (call.CondAwait c m e) (answer.Fail EINVAL)) s (unawaited t (object_named m) s uncanceled) r
     await_keeps c m e true true none free_now other has s is_live_so is_none_so is_ring is_has free sound uncanceled there r = kept.handlers.told (mark.Answered (tid t) (call.CondAwait c m e) (answer.Fail EINVAL)) s (unawaited t (object_named m) s uncanceled) r
@@ -784,7 +784,7 @@ module _ {P S H : Type 0} (f : P → Functions S H) (R : State P S H → Type 0)
     begun_keeps (call.Note v) s free sound uncanceled there r = kept.handlers.told (mark.Noted (tid t) v) s tt r
     begun_keeps (call.BarrierReach b) s free sound uncanceled there r = reach_keeps b (arrival_answer s.control.barriers b) s refl free sound there r
     begun_keeps (call.CondAwait c m e) s free sound uncanceled there r =
-        await_keeps c m e (is_live s.control.conditions c) (is_no_ring s (extra_ring e)) (is_none (mutex s m)) _ _ (is_claimed_ring s (extra_ring e)) s refl refl refl refl free sound uncanceled there r
+        await_keeps c m e (is_initialised s.control.conditions c) (is_no_ring s (extra_ring e)) (is_none (mutex s m)) _ _ (is_claimed_ring s (extra_ring e)) s refl refl refl refl free sound uncanceled there r
     begun_keeps c s free sound uncanceled there r =
         let a = (row_of f s t c).begin in
         begun_by_keeps c a.verdict (effect_of a s).state refl (begins_none true f s t c refl, begins_unnoticed f s t c refl) (allowed f t s c free uncanceled sound.made) (λ blocks. there_still t s (effect_of a s).state (begins_still f t s c blocks) (sound.alive, there)) (unless_keeps s (refuses a.verdict) a.effect (does_keeps s c free sound refl) r)
@@ -971,7 +971,7 @@ module _ {P S H : Type 0} (f : P → Functions S H) (R : State P S H → Type 0)
     owes_keeps : (n : Next) → Stays (owes_after t n)
     owes_keeps (next.Done a) s r = kept.goes t (owing a) s (λ p. refl) r
     owes_keeps (next.Yields a) s r = kept.goes t (owing a) s (λ p. refl) r
-    owes_keeps next.Waits s r = r
+    owes_keeps next.Blocks s r = r
     owes_keeps (next.Ended v) s r = r
     owes_keeps next.Killed s r = r
 

@@ -8,7 +8,7 @@ use Rattle.pth_base.specs.declared.mark.Mark.{Mark}
 use Rattle.pth_base.specs.declared.mark.Mark.TheVariants as mark
 use Rattle.pth_store.specs.Cleanups.{PushedHandler}
 use Rattle.pth_model.specs.declared.destructors.Due.{Due}
-use Rattle.pth_model.specs.declared.destructors.Round.{Round}
+use Rattle.pth_model.specs.declared.destructors.DestructorRound.{DestructorRound}
 use Rattle.pth_model.specs.Ending.{first_round, next_destructor}
 use Rattle.pth_model.specs.Resources.{Resources, no_resources, told}
 
@@ -17,7 +17,7 @@ pub record BlockRun : Type 0 where
   -- the handlers, the first of them first
   pub handlers : List PushedHandler
   -- how far it is in its destructors
-  pub round : Round
+  pub round : DestructorRound
   -- no handler came after a destructor, and each destructor was the next one, with the thread's value
   pub is_fine : Bool
 
@@ -35,7 +35,7 @@ ran_by Closed t = ran_nothing
 ran_by (Open u x) t = if u == t then x else ran_nothing
 
 -- no destructor that was due has run
-abbrev pub is_before_destructors : Round → Bool
+abbrev pub is_before_destructors : DestructorRound → Bool
 is_before_destructors r = r.from == 0
 
 -- two values are the same

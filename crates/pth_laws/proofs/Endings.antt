@@ -19,7 +19,7 @@ use Rattle.pth_model.specs.declared.awaits.Awaits.{Awaits}
 use Rattle.pth_model.specs.declared.awaits.Awaits.TheVariants as awaited
 use Rattle.pth_model.specs.declared.blocked.Blocked.{Blocked}
 use Rattle.pth_model.specs.declared.destructors.Due.{Due}
-use Rattle.pth_model.specs.declared.destructors.Round.{Round}
+use Rattle.pth_model.specs.declared.destructors.DestructorRound.{DestructorRound}
 use Rattle.pth_model.specs.Resources.{Resources, told}
 use Rattle.pth_model.specs.State.{State, Control}
 use Rattle.pth_model.specs.Transition.{Piece, changes, tells, tells_each, tid, where_so, ◌and◌, ◌and_then◌}
@@ -48,10 +48,10 @@ use Rattle.pth_laws.proofs.Handlers.{IsRunning, run_up, block_open, handled_walk
 -- ---- no destructor is left after the rounds that there may be
 
 -- what is left of the rounds and their keys
-abbrev pub keys_left : Round → ℕ
+abbrev pub keys_left : DestructorRound → ℕ
 keys_left r = (round_limit - r.number) * key_limit + (key_limit - r.from)
 
-due_left : (x : Tables) (t : ℕ) (r : Round) (d : Due) → next_destructor x t r ≡ Some d → keys_left d.round < keys_left r
+due_left : (x : Tables) (t : ℕ) (r : DestructorRound) (d : Due) → next_destructor x t r ≡ Some d → keys_left d.round < keys_left r
 due_left x t r d h = by_round (next_is x t r d h)
   where
     by_round : IsNextDue x t r d → keys_left d.round < keys_left r
@@ -68,7 +68,7 @@ due_left x t r d h = by_round (next_is x t r d h)
         let more = next.more in
         omega (arith, high, behind, fewer, more)
 
-none_left : (x : Tables) (t : ℕ) (r : Round) → keys_left r ≤ 0 → next_destructor x t r ≡ None
+none_left : (x : Tables) (t : ℕ) (r : DestructorRound) → keys_left r ≤ 0 → next_destructor x t r ≡ None
 none_left x t r none = by_due (next_destructor x t r) refl
   where
     by_due : (o : Option Due) → next_destructor x t r ≡ o → next_destructor x t r ≡ None
@@ -78,19 +78,19 @@ none_left x t r none = by_due (next_destructor x t r) refl
 -- ---- handlers and destructors
 
 -- what ran so far in an ending: these handlers, and the destructors up to here in the rounds
-abbrev pub so_far : List PushedHandler → Round → BlockRun
+abbrev pub so_far : List PushedHandler → DestructorRound → BlockRun
 so_far hs r = record { handlers = hs; round = r; is_fine = true }
 
 pub one_more_ran : (hs : List PushedHandler) (c : PushedHandler) → with_handler c (so_far hs first_round) ≡ so_far (hs ++ c ∷ []) first_round
 unfolding with_handler
 one_more_ran hs c = refl
 
-next_ran : (hs : List PushedHandler) (r : Round) (d : Due) → with_destructor (Some d) d.key d.value (so_far hs r) ≡ so_far hs d.round
+next_ran : (hs : List PushedHandler) (r : DestructorRound) (d : Due) → with_destructor (Some d) d.key d.value (so_far hs r) ≡ so_far hs d.round
 unfolding with_destructor
 next_ran hs r d = rw (same_self d.key, value_self d.value) refl
 
 module _ {P S H : Type 0} (f : P → Functions S H) (n t : ℕ) (over dropped : ℕ → Bool) (up : over t ≡ false) (made : is_made n t ≡ true) (had : Resources) (y : Control P S H) where
-  abbrev RunsSo : List PushedHandler → Round → Book → State P S H → Type 0
+  abbrev RunsSo : List PushedHandler → DestructorRound → Book → State P S H → Type 0
   RunsSo hs r = IsRunning t over dropped had y (so_far hs r)
 
   each_walk : (cs hs : List PushedHandler) (b : Book) (s : State P S H) → RunsSo hs first_round b s → Walk n b (RunsSo (hs ++ cs) first_round) (runs_each f t cs s)
@@ -105,11 +105,11 @@ module _ {P S H : Type 0} (f : P → Functions S H) (n t : ℕ) (over dropped : 
 
   -- all destructors ran
   pub record IsDone (hs : List PushedHandler) (b : Book) (s : State P S H) : Type 0 where
-    pub round : Round
+    pub round : DestructorRound
     pub runs : RunsSo hs round b s
     pub all : next_destructor s.resources.store.keys t round ≡ None
 
-  due_walk : (hs : List PushedHandler) (r : Round) (o : Option Due) (next : Round → Piece P S H) (b : Book) (s : State P S H) → next_destructor s.resources.store.keys t r ≡ o → RunsSo hs r b s → ((d : Due) → o ≡ Some d → (c : Book) (u : State P S H) → RunsSo hs d.round c u → Walk n c (IsDone hs) (next d.round u)) → Walk n b (IsDone hs) (destructs_by f t o next s)
+  due_walk : (hs : List PushedHandler) (r : DestructorRound) (o : Option Due) (next : DestructorRound → Piece P S H) (b : Book) (s : State P S H) → next_destructor s.resources.store.keys t r ≡ o → RunsSo hs r b s → ((d : Due) → o ≡ Some d → (c : Book) (u : State P S H) → RunsSo hs d.round c u → Walk n c (IsDone hs) (next d.round u)) → Walk n b (IsDone hs) (destructs_by f t o next s)
   unfolding told
   due_walk hs r None next b s found w goes = record { law = tt; post = record { round = r; runs = w; all = found } }
   due_walk hs r (Some d) next b s found w goes =
@@ -130,7 +130,7 @@ module _ {P S H : Type 0} (f : P → Functions S H) (n t : ℕ) (over dropped : 
       (λ c v. handled_walk f n t over dropped up made had y (so_far hs d.round) d.handler d.value c (tells m s).state v))
       (λ c v. goes d refl c (runs_destructor f t d s).state v)
 
-  destructs_walk : (hs : List PushedHandler) (many : ℕ) (r : Round) (b : Book) (s : State P S H) → keys_left r ≤ many → RunsSo hs r b s → Walk n b (IsDone hs) (destructs f t many r s)
+  destructs_walk : (hs : List PushedHandler) (many : ℕ) (r : DestructorRound) (b : Book) (s : State P S H) → keys_left r ≤ many → RunsSo hs r b s → Walk n b (IsDone hs) (destructs f t many r s)
   unfolding destructs
   destructs_walk hs zero r b s low w = record { law = tt; post = record { round = r; runs = w; all = none_left s.resources.store.keys t r low } }
   destructs_walk hs (suc many) r b s low w =

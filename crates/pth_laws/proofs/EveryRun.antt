@@ -266,7 +266,7 @@ module _ {P S H : Type 0} (f : P → Functions S H) where
       by_next : (y : Next) → (y ≡ next.Killed → ⊥) → AfterStep n t y b u → NamesToRun t u.control
       by_next (next.Done a) on h = (running_not_to_run (u.control.threads.known t) h.left.1, nobody_named h.left.2)
       by_next (next.Yields a) on h = (running_not_to_run (u.control.threads.known t) h.left.1, h.left.2)
-      by_next next.Waits on h = (running_not_to_run (u.control.threads.known t) h.left.1, nobody_named h.left.2)
+      by_next next.Blocks on h = (running_not_to_run (u.control.threads.known t) h.left.1, nobody_named h.left.2)
       by_next (next.Ended v) on h = (over_not_to_run (u.control.threads.known t) (living-over n b.ended u.control.threads.made u.control.threads.known u.control.threads.standing h.living t h.gone), nobody_named h.left.1)
       by_next next.Killed on h = absurd (on refl)
 

@@ -8,7 +8,7 @@ use Rattle.pth_base.specs.declared.call.Call.TheVariants as call
 use Rattle.pth_base.proofs.Tables.{same_self, same_means, put_by}
 use Rattle.pth_lock.specs.Objects.{object_named}
 use Rattle.pth_cond.specs.declared.seats.Seat.TheVariants.{Await, Event}
-use Rattle.pth_cond.specs.Conditions.{ConditionTable, seat_entered, seat_left, is_live, all_seats_left}
+use Rattle.pth_cond.specs.Conditions.{ConditionTable, seat_entered, seat_left, is_initialised, all_seats_left}
 use Rattle.pth_cond.specs.Barriers.{barrier_reached}
 use Rattle.pth_numbered.specs.Operands.{number}
 use Rattle.pth_ring.specs.Rings.{claimed}
@@ -158,7 +158,7 @@ module _ {P S H : Type 0} where
       seats_returned (ring_held (blocked_of s.control t)) (controlled (is_blocked_by t None) a) (seats_go x t (blocking None) s keeps.others (seat_none x t (s.control.threads.progress t)) r)
 
   -- t takes a seat, and waits there
-  seats_taken : (t : ℕ) (c m e : ℤ) (s : State P S H) → is_live s.control.conditions c ≡ true → HaveSeats s → HaveSeats (controlled (λ k. blocks t (call.CondAwait c m e) (Notice c) (claims t (extra_ring e) (with_conditions (seat_entered c (seat_of t)) k))) s)
+  seats_taken : (t : ℕ) (c m e : ℤ) (s : State P S H) → is_initialised s.control.conditions c ≡ true → HaveSeats s → HaveSeats (controlled (λ k. blocks t (call.CondAwait c m e) (Notice c) (claims t (extra_ring e) (with_conditions (seat_entered c (seat_of t)) k))) s)
   unfolding claims
   seats_taken t c m e s live r =
       let y = seat_entered c (seat_of t) s.control.conditions in

@@ -500,7 +500,7 @@ owed_names : {P S H : Type 0} (t : ℕ) (n : Next) (k : Control P S H) → Names
 unfolding goes_on
 owed_names t (next.Done a) k h = h
 owed_names t (next.Yields a) k h = h
-owed_names t next.Waits k h = h
+owed_names t next.Blocks k h = h
 owed_names t (next.Ended v) k h = h
 owed_names t next.Killed k h = h
 
@@ -508,7 +508,7 @@ owed_names t next.Killed k h = h
 turns_after : (t : ℕ) (n : Next) (x : Turn) → (turn_after t n x).turns ≡ x.turns
 turns_after t (next.Done a) x = refl
 turns_after t (next.Yields a) x = refl
-turns_after t next.Waits x = refl
+turns_after t next.Blocks x = refl
 turns_after t (next.Ended v) x = by_main (t == main)
   where
     by_main : (b : Bool) → (ends_run v b x).turns ≡ x.turns

@@ -319,7 +319,7 @@ module _ {P S H : Type 0} (f : P → Functions S H) (g : Given P) where
       by_next : (n : Next) → (steps_on f t (run f g i).state).next ≡ n → turns_at (next_part (controlled (owes_after t n) u) (turn_after t n x)) ≡ 1
       by_next (next.Done a) goes = turns_running x.outcome x.gave u.control.scheduler.running t (is_idle u.control) ((run_steps f g i t step).1 a goes)
       by_next (next.Yields a) goes = turns_giving x.outcome t u.control.scheduler.running (is_idle u.control)
-      by_next next.Waits goes = turns_giving x.outcome t u.control.scheduler.running (is_idle u.control)
+      by_next next.Blocks goes = turns_giving x.outcome t u.control.scheduler.running (is_idle u.control)
       by_next (next.Ended v) goes = turns_giving (turn_after t (next.Ended v) x).outcome t u.control.scheduler.running (is_idle u.control)
       by_next next.Killed goes = refl
 

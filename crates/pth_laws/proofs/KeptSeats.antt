@@ -7,10 +7,10 @@ use Rattle.pth_base.proofs.Tables.{put_by, put_here, not_same, same_means}
 use Rattle.pth_lock.specs.Objects.{object_named}
 use Rattle.pth_cond.specs.declared.seats.Seat.{Seat}
 use Rattle.pth_cond.specs.declared.seats.Seat.TheVariants.{Await, Event}
-use Rattle.pth_cond.specs.declared.seats.Notice.TheVariants.{Unmarked}
+use Rattle.pth_cond.specs.declared.seats.SeatMark.TheVariants.{Unmarked}
 use Rattle.pth_cond.specs.declared.seats.Taken.{Taken}
-use Rattle.pth_cond.specs.Seats.{is_seat, is_at, is_one_at, notice_at, with_seat, without_seat, one_notified, notified, handed_on}
-use Rattle.pth_cond.specs.Conditions.{Condition, ConditionTable, is_live, has_seat_here, has_seat, with_seats, cond_initialised, seat_entered, seat_left, seat_handed_on, cond_notified}
+use Rattle.pth_cond.specs.Seats.{is_seat, is_at, is_one_at, mark_at, with_seat, without_seat, one_notified, notified, handed_on}
+use Rattle.pth_cond.specs.Conditions.{Condition, ConditionTable, is_initialised, has_seat_here, has_seat, with_seats, cond_initialised, seat_entered, seat_left, seat_handed_on, cond_notified}
 use Rattle.pth_ring.specs.Rings.{Events}
 use Rattle.pth_model.specs.Conditions.{seat_of}
 use Rattle.pth_model.specs.EventSeats.{SeatChange, condition_in, event_seat, seat_changed, seats_changed}
@@ -53,7 +53,7 @@ module _ (s u : Seat) (apart : is_seat s u ≡ false) where
           omega (arith, same, left, more)
 
   handed_other : (ts : List Taken) → taken u (handed_on s ts) ≡ taken u ts
-  handed_other ts = by_test (is_one_at (notice_at s ts))
+  handed_other ts = by_test (is_one_at (mark_at s ts))
     where
       by_test : (b : Bool) → taken u (if b then one_notified (without_seat s ts) else without_seat s ts) ≡ taken u ts
       by_test true = one_same u (without_seat s ts) ∙ without_other ts
@@ -80,16 +80,16 @@ entered_more c s u x k = put_by (λ y. seats_at u (x k) ≤ seats_at u y) x (obj
   where
     by_condition : (y : Condition) → seats_at u y ≤ seats_at u (option_map (with_seat s) y)
     by_condition None = omega arith
-    by_condition (Some ts) = let same = sum_by_push (λ t. cond (is_at u t) 1 0) ts (record { seat = s; notice = Unmarked }) in omega (arith, same)
+    by_condition (Some ts) = let same = sum_by_push (λ t. cond (is_at u t) 1 0) ts (record { seat = s; mark = Unmarked }) in omega (arith, same)
 
 -- and has it, where the condition is initialised
-pub entered_here : (c : ℤ) (s : Seat) (x : ConditionTable) → is_seat s s ≡ true → is_live x c ≡ true → 1 ≤ seats_at s (seat_entered c s x (object_named c))
+pub entered_here : (c : ℤ) (s : Seat) (x : ConditionTable) → is_seat s s ≡ true → is_initialised x c ≡ true → 1 ≤ seats_at s (seat_entered c s x (object_named c))
 entered_here c s x own live = let same = ap (seats_at s) (put_here x (object_named c) (option_map (with_seat s) (x (object_named c)))) in let there = by_condition (x (object_named c)) live in omega (arith, same, there)
   where
     by_condition : (y : Condition) → is_some y ≡ true → 1 ≤ seats_at s (option_map (with_seat s) y)
     by_condition None h = absurd (true≢false (sym h))
     by_condition (Some ts) h =
-        let same = sum_by_push (λ t. cond (is_at s t) 1 0) ts (record { seat = s; notice = Unmarked }) in
+        let same = sum_by_push (λ t. cond (is_at s t) 1 0) ts (record { seat = s; mark = Unmarked }) in
         let one = ap (λ (b : Bool). cond {A = ℕ} b 1 0) own in
         omega (arith, same, one)
 
@@ -147,7 +147,7 @@ keeps_notified c all x = record {
 }
 
 -- at a condition that was not initialised nobody had a seat
-pub keeps_initialised : (c : ℤ) (x : ConditionTable) → is_live x c ≡ false → KeepsSeats (cond_initialised c x) x
+pub keeps_initialised : (c : ℤ) (x : ConditionTable) → is_initialised x c ≡ false → KeepsSeats (cond_initialised c x) x
 keeps_initialised c x free = record {
   fewer = seats_initialised c x;
   all = λ k u. put_by (λ y. seats_at (seat_of u) (x k) ≤ seats_at (seat_of u) y) x (object_named c) (Some []) k (λ here. rw here (by_condition (seat_of u) (x (object_named c)) free)) (λ other. omega arith);

@@ -19,7 +19,7 @@ use Rattle.pth_base.proofs.Tables.{same_self, same_means, same_fails, not_same, 
 use Rattle.pth_numbered.specs.Operands.{is_zero}
 use Rattle.pth_store.specs.Keys.{Tables, key_limit, is_unset, created, deleted, with_key_value, forgotten}
 use Rattle.pth_model.specs.declared.destructors.Due.{Due}
-use Rattle.pth_model.specs.declared.destructors.Round.{Round}
+use Rattle.pth_model.specs.declared.destructors.DestructorRound.{DestructorRound}
 use Rattle.pth_model.specs.Ending.{round_limit}
 use Rattle.pth_model.specs.Resources.{Resources, destructor_by, on_one, on_int, on_msg, told, answer_told, act_told}
 use Rattle.pth_laws.specs.Destructors.{Owes as KeyOwes, NoneOwes as NoKeyOwes, IsFirst, IsNextDue, IsNoneDue}
@@ -235,7 +235,7 @@ abbrev pub IsLastBefore : ℕ → Option ℤ → Type 0
 IsLastBefore from None = from ≡ 0
 IsLastBefore from (Some key) = (i : ℕ) × (key ≡ pos i) × (from ≡ i + 1)
 
-pub record StageFits (x : Stage) (r : Round) : Type 0 where
+pub record StageFits (x : Stage) (r : DestructorRound) : Type 0 where
   pub rounds : x.rounds ≡ r.number
   pub last : IsLastBefore r.from x.last
 
@@ -303,7 +303,7 @@ module _ (t : ℕ) (x : Tables) (before : List Mark) (f : KeysFit t x before) wh
           by_test true e = e
           by_test false e = let less : n < m = grind (arith, nat_tests) in absurd (h less)
 
-  pub next_said : (s : Stage) (r : Round) (d : Due) → StageFits s r → IsNextDue x t r d → IsNext t before s (pos d.key) d.value d.round.number
+  pub next_said : (s : Stage) (r : DestructorRound) (d : Due) → StageFits s r → IsNextDue x t r d → IsNext t before s (pos d.key) d.value d.round.number
   next_said s r d fits (inl due) = inl (least_said r.from s.last d fits.last due.0, due.1 ∙ sym fits.rounds)
   next_said s r d fits (inr due) =
       let fewer = due.fewer in
@@ -311,11 +311,11 @@ module _ (t : ℕ) (x : Tables) (before : List Mark) (f : KeysFit t x before) wh
       let more = due.more in
       inr (record { over = none_said r.from s.last fits.last due.over; fewer = omega (arith, fewer, rounds); first = least_said 0 None d refl due.first; more = omega (arith, more, rounds) })
 
-  pub stage_said : (r : Round) (d : Due) → IsNextDue x t r d → StageFits (record { rounds = d.round.number; last = Some (pos d.key) }) d.round
+  pub stage_said : (r : DestructorRound) (d : Due) → IsNextDue x t r d → StageFits (record { rounds = d.round.number; last = Some (pos d.key) }) d.round
   stage_said r d (inl due) = record { rounds = refl; last = (d.key, refl, due.0.behind) }
   stage_said r d (inr due) = record { rounds = refl; last = (d.key, refl, due.first.behind) }
 
-  pub none_next_said : (s : Stage) (r : Round) → StageFits s r → IsNoneDue x t r → IsNoneNext t before s
+  pub none_next_said : (s : Stage) (r : DestructorRound) → StageFits s r → IsNoneDue x t r → IsNoneNext t before s
   none_next_said s r fits none = (none_said r.from s.last fits.last none.0, by_rounds none.1)
     where
       by_rounds : (round_limit ≤ r.number) ⊎ NoKeyOwes x t 0 key_limit → (round_limit ≤ s.rounds) ⊎ NoneOwes t before None

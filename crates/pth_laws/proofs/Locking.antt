@@ -17,7 +17,7 @@ use Rattle.pth_numbered.specs.Operands.{number, is_zero}
 use Rattle.pth_lock.specs.Objects.{object_limit, object_named, is_object}
 use Rattle.pth_lock.specs.Mutexes.{Mutex, has, is_anothers, owner_of, levels_of, level_limit, release_answer, take_answer}
 use Rattle.pth_lock.specs.RwLocks.{LockTables, holds, may_enter, is_held}
-use Rattle.pth_cond.specs.Conditions.{is_live}
+use Rattle.pth_cond.specs.Conditions.{is_initialised}
 use Rattle.pth_port.specs.Mail.{Mail, Message, is_live as is_mail_live, is_port, is_taken, messages, messages_at, message_limit, oldest, port_limit, port_put_answer, reply_port}
 use Rattle.pth_store.specs.Keys.{Tables, free_key, keys_from, key_limit}
 use Rattle.pth_model.specs.declared.awaits.Awaits.{Awaits}
@@ -275,7 +275,7 @@ module _ {P S H : Type 0} (f : P → Functions S H) (s : State P S H) (t : ℕ) 
   begins_exclusive (call.RwInit l) idle = lock_init_exclusive r t l (not (is_object l)) (r.store.rw_locks.initialised (object_named l)) refl refl
   begins_exclusive (call.RwAcquire l write v e) idle = enter_exclusive r t l write v e (is_no_ring s (extra_ring e)) (not (r.store.rw_locks.initialised (object_named l))) (holds r.store.rw_locks t (object_named l)) (not (may_enter r.store.rw_locks write (object_named l))) (not (is_zero v) || is_claimed_ring s (extra_ring e)) refl refl refl
   begins_exclusive (call.RwRelease l) idle = lock_release_exclusive r t l (not (r.store.rw_locks.initialised (object_named l))) (not (is_held r.store.rw_locks (object_named l))) (not (holds r.store.rw_locks t (object_named l))) refl
-  begins_exclusive (call.CondAwait c m e) idle = await_exclusive r t c m e (not (is_live s.control.conditions c) || is_no_ring s (extra_ring e)) (is_none (z r t m)) (is_none (owner_of (z r t m))) (is_anothers t (z r t m)) (is_claimed_ring s (extra_ring e)) idle refl refl
+  begins_exclusive (call.CondAwait c m e) idle = await_exclusive r t c m e (not (is_initialised s.control.conditions c) || is_no_ring s (extra_ring e)) (is_none (z r t m)) (is_none (owner_of (z r t m))) (is_anothers t (z r t m)) (is_claimed_ring s (extra_ring e)) idle refl refl
   begins_exclusive (call.KeyCreate h) idle = create_exclusive r t h (free_key r.store.keys) refl
   begins_exclusive (call.PortCreate name) idle = port_create_exclusive r t name (is_taken r.store.ports name) (nat_le port_limit (number_known r.store.mail.at r.store.ports.made))
   begins_exclusive (call.PortPut p v o) idle = put_exclusive r t p v o (not (is_port r.store.mail p) || not (is_zero o) && not (is_port r.store.mail o)) (nat_le message_limit (messages r.store.mail r.store.ports.made)) refl

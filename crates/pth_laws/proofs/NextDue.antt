@@ -7,7 +7,7 @@ use Rattle.std.proofs.lemmas.Option.{none-some, same_Some}
 use Rattle.pth_base.specs.declared.ids.HandlerId.{HandlerId}
 use Rattle.pth_store.specs.Keys.{Tables, key_limit, is_unset, owed, owed_for, first_live}
 use Rattle.pth_model.specs.declared.destructors.Due.{Due}
-use Rattle.pth_model.specs.declared.destructors.Round.{Round}
+use Rattle.pth_model.specs.declared.destructors.DestructorRound.{DestructorRound}
 use Rattle.pth_model.specs.Ending.{round_limit, due, due_by, next_destructor}
 use Rattle.pth_laws.specs.Destructors.{Owes, NoneOwes, IsFirst, IsNextDue, IsNoneDue}
 
@@ -97,7 +97,7 @@ module _ (x : Tables) (t : ℕ) where
   due_none : (d : Due) → Some d ≡ None → ⊥
   due_none d h = cc
 
-  pub next_is : (r : Round) (d : Due) → next_destructor x t r ≡ Some d → IsNextDue x t r d
+  pub next_is : (r : DestructorRound) (d : Due) → next_destructor x t r ≡ Some d → IsNextDue x t r d
   unfolding next_destructor
   next_is r d found = by_first (first_live x t r.from) (first_live x t 0) refl refl found
     where
@@ -112,7 +112,7 @@ module _ (x : Tables) (t : ℕ) where
       by_first None (Some o) here first found = by_round o (nat_lt r.number round_limit) refl here first found
       by_first None None here first found = absurd (none-some d found)
 
-  pub none_is : (r : Round) → next_destructor x t r ≡ None → IsNoneDue x t r
+  pub none_is : (r : DestructorRound) → next_destructor x t r ≡ None → IsNoneDue x t r
   unfolding next_destructor
   none_is r none = by_first (first_live x t r.from) (first_live x t 0) refl refl none
     where

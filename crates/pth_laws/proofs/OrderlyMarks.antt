@@ -20,7 +20,7 @@ use Rattle.pth_base.proofs.Tables.{same_means}
 use Rattle.pth_store.specs.Cleanups.{PushedHandler, without_top}
 use Rattle.pth_store.specs.Keys.{Tables, first_live}
 use Rattle.pth_model.specs.declared.destructors.Due.{Due}
-use Rattle.pth_model.specs.declared.destructors.Round.{Round}
+use Rattle.pth_model.specs.declared.destructors.DestructorRound.{DestructorRound}
 use Rattle.pth_model.specs.Ending.{round_limit, first_round, due, due_by, next_destructor}
 use Rattle.pth_model.specs.Resources.{Resources, no_resources, handler, on_one, on_int, on_msg, told, answer_told, act_told, told_all}
 use Rattle.pth_model.proofs.Told.{told_more}
@@ -284,7 +284,7 @@ module _ (t : ℕ) where
 due_later : (n : ℕ) (o : ℕ × HandlerId × ℤ) (d : Due) → Some (due n o) ≡ Some d → is_before_destructors d.round ≡ false
 due_later n o d h = let same : due n o ≡ d = cc in subst (λ (e : Due). is_before_destructors e.round ≡ false) same (not_zero o.0)
 
-due_by-later : (r : Round) (o p : Option (ℕ × HandlerId × ℤ)) (d : Due) → due_by r o p ≡ Some d → is_before_destructors d.round ≡ false
+due_by-later : (r : DestructorRound) (o p : Option (ℕ × HandlerId × ℤ)) (d : Due) → due_by r o p ≡ Some d → is_before_destructors d.round ≡ false
 due_by-later r (Some o) p d h = due_later r.number o d h
 due_by-later r None (Some o) d h = by_test (nat_lt r.number round_limit) h
   where
@@ -293,18 +293,18 @@ due_by-later r None (Some o) d h = by_test (nat_lt r.number round_limit) h
     by_test false same = absurd (cc same)
 due_by-later r None None d h = absurd (cc h)
 
-next_later : (x : Tables) (t : ℕ) (r : Round) (d : Due) → next_destructor x t r ≡ Some d → is_before_destructors d.round ≡ false
+next_later : (x : Tables) (t : ℕ) (r : DestructorRound) (d : Due) → next_destructor x t r ≡ Some d → is_before_destructors d.round ≡ false
 unfolding next_destructor
 next_later x t r d h = due_by-later r (first_live x t r.from) (first_live x t 0) d h
 
 -- before the destructors, handlers come first; later none comes
-record AreInOrder (r : Round) (ms : List Mark) : Type 0 where
+record AreInOrder (r : DestructorRound) (ms : List Mark) : Type 0 where
   first : is_before_destructors r ≡ true → AreHandlersFirst ms
   later : is_before_destructors r ≡ false → handlers_in ms ≡ []
 
 -- from these resources and this round on, each destructor that runs is t's next one, with its key and its value, and after the last
 -- none is due
-unfoldable IsDueSequence : ℕ → Resources → Round → List Mark → Type 0
+unfoldable IsDueSequence : ℕ → Resources → DestructorRound → List Mark → Type 0
 IsDueSequence t k r [] = next_destructor k.store.keys t r ≡ None
 IsDueSequence t k r (mark.Destructor u key v ∷ ms) = (d : Due) × (next_destructor k.store.keys t r ≡ Some d) × (d.key ≡ key) × (d.value ≡ v) × IsDueSequence t (told k (mark.Destructor u key v)) d.round ms
 IsDueSequence t k r (m ∷ ms) = IsDueSequence t (told k m) r ms
@@ -352,8 +352,8 @@ module _ (t : ℕ) where
   fine_along k x (m ∷ ms) e = fine_more k x m ms (fine_along (told k m) (ran_after t k x m) ms (record { fine = e.fine; none = e.none }))
 
   -- the destructors that are due are the next ones by the marks
-  due_more : (b : Book) (before : List Mark) (s : Stage) (r : Round) (u : Tid) (key : ℕ) (v : ℤ) (ms : List Mark) → KeysFit t b.resources.store.keys before → StageFits s r
-      → ((r2 : Round) (s2 : Stage) → StageFits s2 r2 → IsDueSequence t (told b.resources (mark.Destructor u key v)) r2 ms → IsSequence t (before ++ mark.Destructor u key v ∷ []) s2 ms)
+  due_more : (b : Book) (before : List Mark) (s : Stage) (r : DestructorRound) (u : Tid) (key : ℕ) (v : ℤ) (ms : List Mark) → KeysFit t b.resources.store.keys before → StageFits s r
+      → ((r2 : DestructorRound) (s2 : Stage) → StageFits s2 r2 → IsDueSequence t (told b.resources (mark.Destructor u key v)) r2 ms → IsSequence t (before ++ mark.Destructor u key v ∷ []) s2 ms)
       → IsDueSequence t b.resources r (mark.Destructor u key v ∷ ms) → IsSequence t before s (mark.Destructor u key v ∷ ms)
   unfolding IsDueSequence IsSequence
   due_more b before s r u key v ms f fits rest due =
@@ -366,7 +366,7 @@ module _ (t : ℕ) where
             (subst (λ (z : ℤ). StageFits (record { rounds = d.round.number; last = Some z }) d.round) same (stage_said t b.resources.store.keys before f r d next)) due.4,
       )
 
-  sequence_said : (b : Book) (before ms : List Mark) (s : Stage) (r : Round) → list_any is_kill ms ≡ false → EachMark IsLawful b ms → KeysFit t b.resources.store.keys before → StageFits s r → IsDueSequence t b.resources r ms → IsSequence t before s ms
+  sequence_said : (b : Book) (before ms : List Mark) (s : Stage) (r : DestructorRound) → list_any is_kill ms ≡ false → EachMark IsLawful b ms → KeysFit t b.resources.store.keys before → StageFits s r → IsDueSequence t b.resources r ms → IsSequence t before s ms
   unfolding IsDueSequence IsSequence
   sequence_said b before [] s r on law f fits due = none_next_said t b.resources.store.keys before f s r fits (due_none b.resources.store.keys t r due)
   sequence_said b before (mark.Destructor u key v ∷ ms) s r on law f fits due =

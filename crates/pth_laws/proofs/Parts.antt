@@ -289,14 +289,14 @@ module _ {P S H : Type 0} (n : ℕ) where
   claims_owed : (t : ℕ) (o : Next) (k : Control P S H) → HasClaims k → HasClaims (owes_after t o k)
   claims_owed t (next.Done a) k claims = claims_go t (owing a) k (λ p. refl) claims
   claims_owed t (next.Yields a) k claims = claims_go t (owing a) k (λ p. refl) claims
-  claims_owed t next.Waits k claims = claims
+  claims_owed t next.Blocks k claims = claims
   claims_owed t (next.Ended v) k claims = claims
   claims_owed t next.Killed k claims = claims
 
   awaits_owed : (w : Flags) (t : ℕ) (o : Next) (k : Control P S H) → HasAwaits w k → HasAwaits w (owes_after t o k)
   awaits_owed w t (next.Done a) k has = awaits_go w t (owing a) k (λ p. refl) has
   awaits_owed w t (next.Yields a) k has = awaits_go w t (owing a) k (λ p. refl) has
-  awaits_owed w t next.Waits k has = has
+  awaits_owed w t next.Blocks k has = has
   awaits_owed w t (next.Ended v) k has = has
   awaits_owed w t next.Killed k has = has
 
@@ -324,12 +324,12 @@ module _ {P S H : Type 0} (n : ℕ) where
     preferred = λ v named. to_run_lives (u.control.threads.known v) (h.left.2 v named);
     unnamed = λ v run g. absurd (some_none t g);
   }
-  owed_settles t next.Waits c u y none h on = record {
+  owed_settles t next.Blocks c u y none h on = record {
     resources = h.resources;
     closed = h.closed;
     living = h.living;
-    claims = claims_owed t next.Waits u.control h.claims;
-    awaits = awaits_owed (flags c u.resources.awaits) t next.Waits u.control h.awaits;
+    claims = claims_owed t next.Blocks u.control h.claims;
+    awaits = awaits_owed (flags c u.resources.awaits) t next.Blocks u.control h.awaits;
     runs = λ v run. subst (λ (i : ℕ). (or_nobody (u.control.threads.known i)).state ≡ state.Running) (same_Some t v (sym h.left.0 ∙ run)) h.left.1;
     gave = λ v g. inl (h.left.0 ∙ g);
     preferred = λ v named. absurd (none-some v (sym h.left.2 ∙ named));

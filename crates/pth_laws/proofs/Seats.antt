@@ -6,9 +6,9 @@ use Rattle.std.proofs.lemmas.Bool.{true≢false}
 use Rattle.pth_base.proofs.Tables.{put_by, put_here, put_other}
 use Rattle.pth_lock.specs.Objects.{object_named}
 use Rattle.pth_cond.specs.declared.seats.Seat.{Seat}
-use Rattle.pth_cond.specs.declared.seats.Notice.TheVariants.{Unmarked, One, All}
+use Rattle.pth_cond.specs.declared.seats.SeatMark.TheVariants.{Unmarked, One, All}
 use Rattle.pth_cond.specs.declared.seats.Taken.{Taken}
-use Rattle.pth_cond.specs.Seats.{is_seat, is_at, is_one_at, notice_at, has_mark, with_seat, without_seat, one_notified, all_notified, notified, handed_on}
+use Rattle.pth_cond.specs.Seats.{is_seat, is_at, is_one_at, mark_at, has_mark, with_seat, without_seat, one_notified, all_notified, notified, handed_on}
 use Rattle.pth_cond.specs.Conditions.{Condition, ConditionTable, has_seat_here, has_seat, with_seats, cond_initialised, seat_entered, seat_left, seat_handed_on, cond_notified, all_left, all_seats_left}
 
 -- how often a seat is among these
@@ -51,24 +51,24 @@ pub one_same : (u : Seat) (ts : List Taken) → taken u (one_notified ts) ≡ ta
 one_same u [] = refl
 one_same u (t ∷ ts) = by_test (has_mark t) (one_same u ts)
   where
-    by_test : (b : Bool) → taken u (one_notified ts) ≡ taken u ts → taken u (if b then t ∷ one_notified ts else record t { notice = One } ∷ ts) ≡ taken u (t ∷ ts)
+    by_test : (b : Bool) → taken u (one_notified ts) ≡ taken u ts → taken u (if b then t ∷ one_notified ts else record t { mark = One } ∷ ts) ≡ taken u (t ∷ ts)
     by_test true more = taken_cons u t (one_notified ts) ∙ ap (λ n. cond (is_at u t) 1 0 + n) more ∙ sym (taken_cons u t ts)
-    by_test false more = taken_cons u (record t { notice = One }) ts ∙ sym (taken_cons u t ts)
+    by_test false more = taken_cons u (record t { mark = One }) ts ∙ sym (taken_cons u t ts)
 
 all_same : (u : Seat) (ts : List Taken) → taken u (all_notified ts) ≡ taken u ts
 all_same u [] = refl
 all_same u (t ∷ ts) = by_test (has_mark t) (all_same u ts)
   where
-    by_test : (b : Bool) → taken u (all_notified ts) ≡ taken u ts → taken u ((if b then t else record t { notice = All }) ∷ all_notified ts) ≡ taken u (t ∷ ts)
+    by_test : (b : Bool) → taken u (all_notified ts) ≡ taken u ts → taken u ((if b then t else record t { mark = All }) ∷ all_notified ts) ≡ taken u (t ∷ ts)
     by_test true more = taken_cons u t (all_notified ts) ∙ ap (λ n. cond (is_at u t) 1 0 + n) more ∙ sym (taken_cons u t ts)
-    by_test false more = taken_cons u (record t { notice = All }) (all_notified ts) ∙ ap (λ n. cond (is_at u t) 1 0 + n) more ∙ sym (taken_cons u t ts)
+    by_test false more = taken_cons u (record t { mark = All }) (all_notified ts) ∙ ap (λ n. cond (is_at u t) 1 0 + n) more ∙ sym (taken_cons u t ts)
 
 pub notified_same : (u : Seat) (all : Bool) (ts : List Taken) → taken u (notified all ts) ≡ taken u ts
 notified_same u true ts = all_same u ts
 notified_same u false ts = one_same u ts
 
 handed_same : (s u : Seat) (ts : List Taken) → taken u (handed_on s ts) ≡ taken u (without_seat s ts)
-handed_same s u ts = by_test (is_one_at (notice_at s ts))
+handed_same s u ts = by_test (is_one_at (mark_at s ts))
   where
     by_test : (b : Bool) → taken u (if b then one_notified (without_seat s ts) else without_seat s ts) ≡ taken u (without_seat s ts)
     by_test true = one_same u (without_seat s ts)
@@ -154,4 +154,4 @@ entered_by c s u x k = put_by (λ y. seats_at u y ≤ seats_at u (x k) + cond (i
   where
     by_condition : (y : Condition) → seats_at u (option_map (with_seat s) y) ≤ seats_at u y + cond (is_seat s u) 1 0
     by_condition None = omega arith
-    by_condition (Some ts) = let same = sum_by_push (λ t. cond (is_at u t) 1 0) ts (record { seat = s; notice = Unmarked }) in omega (arith, same)
+    by_condition (Some ts) = let same = sum_by_push (λ t. cond (is_at u t) 1 0) ts (record { seat = s; mark = Unmarked }) in omega (arith, same)

@@ -315,12 +315,12 @@ module _ {P S H : Type 0} (f : P → Functions S H) (n t : ℕ) (made : is_made 
       let o = (told u.resources m).awaits in
       walk_tells n (After x) c m u (λ locked. (((within_up o c u w, (uncanceled, pop)), exclusive), made)) (leaves (after c m) (tells m u).state refl (told_within m c u goes refl w))
 
-  wait_walk : (k : Call) (c : Book) (u : State P S H) → IsWaitExclusive c.resources t k → c.canceled t ≡ false → Telling (mark.Waits (tid t) k) c u → Walk n c (After next.Waits) (tells (mark.Waits (tid t) k) u)
+  wait_walk : (k : Call) (c : Book) (u : State P S H) → IsWaitExclusive c.resources t k → c.canceled t ≡ false → Telling (mark.Waits (tid t) k) c u → Walk n c (After next.Blocks) (tells (mark.Waits (tid t) k) u)
   wait_walk k c u exclusive uncanceled w =
       let m = mark.Waits (tid t) k in
       let o = (told u.resources m).awaits in
       let v = told_within m c u refl refl w in
-      walk_tells n (After next.Waits) c m u (λ locked. (((within_up o c u w, uncanceled), wait_exclusive c t k exclusive), made)) (within_stepped next.Waits (after c m) (tells m u).state refl (left_running (after c m) (tells m u).state v) tt v)
+      walk_tells n (After next.Blocks) c m u (λ locked. (((within_up o c u w, uncanceled), wait_exclusive c t k exclusive), made)) (within_stepped next.Blocks (after c m) (tells m u).state refl (left_running (after c m) (tells m u).state v) tt v)
 
   -- a change that keeps t going
   change_within : (g : Change P S H) (o : ℕ → Bool) (c : Book) (u : State P S H) → Going n c.ended t (g u.control) → HasClaims (g u.control) → HasAwaits (flags c o) (g u.control) → Within c u → IsWithin n t c o (controlled g u)
@@ -746,7 +746,7 @@ module _ {P S H : Type 0} (f : P → Functions S H) (n t : ℕ) (made : is_made 
 
   -- nothing blocks t, and nothing is done
   idle_walk : (c : Book) (s : State P S H) → c.block ≡ Closed → Within c s → Walk n c (After (tried_again_by f t None s).next) (tried_again_by f t None s).told
-  idle_walk c s closed w = record { law = tt; post = within_stepped next.Waits c s closed (left_running c s w) tt w }
+  idle_walk c s closed w = record { law = tt; post = within_stepped next.Blocks c s closed (left_running c s w) tt w }
 
   tried_again_walk : (d : Blocked) (p : Progress S) (c : Book) (s : State P S H) → is_await d.call ≡ false → c.block ≡ Closed → s.control.threads.progress t ≡ Some p → p.blocked ≡ Some d → Within c s → Walk n c (After (tried_again_by f t (Some d) s).next) (tried_again_by f t (Some d) s).told
   tried_again_walk d p c s other closed on blocked w =
@@ -869,12 +869,12 @@ module _ {P S H : Type 0} (f : P → Functions S H) (n t : ℕ) (made : is_made 
         fits = awaits_block t (flags_past t c (put u.resources.awaits t false)) (flags c u.resources.awaits) (Some now) u.control p on own (λ awaits. going_alive n c.ended t u.control w.going) (stopped_others c u u.resources.awaits (λ i apart. refl)) w.fits;
       }
 
-      waits_walk : Walk n c (After next.Waits) ((changes (is_blocked_by t (Some now)) and_then tells (mark.Retakes (tid t) k)) u)
+      waits_walk : Walk n c (After next.Blocks) ((changes (is_blocked_by t (Some now)) and_then tells (mark.Retakes (tid t) k)) u)
       waits_walk =
           let x = mark.Retakes (tid t) k in
           let d = after c x in
           let y = told_within x c v refl refl within in
-          record { law = ((λ locked. (((leaving_up (put u.resources.awaits t false) c u w, tt), tt), made)), tt); post = within_stepped next.Waits d (tells x v).state refl (left_running d (tells x v).state y) tt y }
+          record { law = ((λ locked. (((leaving_up (put u.resources.awaits t false) c u w, tt), tt), made)), tt); post = within_stepped next.Blocks d (tells x v).state refl (left_running d (tells x v).state y) tt y }
 
   -- the wait is over, once its seat is left
   ends_walk : (q m e : ℤ) (o : Retake) (p : Progress S) (c : Book) (s : State P S H) → c.canceled t ≡ is_canceled (awaits.Retaking m o) → s.resources.awaits t ≡ true → s.control.threads.progress t ≡ Some p → IsLeaving n t c s.resources.awaits s
@@ -884,7 +884,7 @@ module _ {P S H : Type 0} (f : P → Functions S H) (n t : ℕ) (made : is_made 
       retakes_walk q m e o (can_take u t m) (blocking None p) c u refl uncanceled awaiting (stopped_progress t s.control p on) refl (stopped_leaving c s w)
 
   -- t waits on
-  waits_on_walk : (q m e : ℤ) (c : Book) (s : State P S H) → s.resources.awaits t ≡ true → c.canceled t ≡ false → Within c s → Walk n c (After next.Waits) (tells (mark.Waits (tid t) (call.CondAwait q m e)) s)
+  waits_on_walk : (q m e : ℤ) (c : Book) (s : State P S H) → s.resources.awaits t ≡ true → c.canceled t ≡ false → Within c s → Walk n c (After next.Blocks) (tells (mark.Waits (tid t) (call.CondAwait q m e)) s)
   unfolding told
   waits_on_walk q m e c s awaiting uncanceled w =
       let k = call.CondAwait q m e in

@@ -14,7 +14,7 @@ use Rattle.std.proofs.lemmas.Bool.Decides.{nat_tests}
 use Rattle.std.proofs.lemmas.Int.{ints}
 use Rattle.pth_base.proofs.Tables.{not_same, same_self}
 use Rattle.pth_queue.specs.Ranking.{head_of}
-use Rattle.pth_model.specs.Allowance.{Point, has_entry, standing_of, number_by, points, takes_another, names_another, waited, or_none, grace, is_before, before, new_at_top, newcomers, beyond, allowed}
+use Rattle.pth_model.specs.Allowance.{Point, has_entry, standing_of, number_by, points, takes_another, names_another, waited, or_none, grace, is_before, number_before, new_at_top, newcomers, beyond, allowed}
 use Rattle.pth_model.specs.Order.{StandsBefore, IsNumbered}
 use Rattle.pth_model.specs.Part.{chosen}
 use Rattle.pth_model.specs.Standing.{Standing, height, row_at, shown, left_by}
@@ -76,7 +76,7 @@ module _ (f : Standing → Bool) (t : ℕ) where
       let rest = count-weaker stays f (λ y. both_le (not (y.tid == t)) (f y)) xs in
       let before = sum_by-IsPermutation (λ y. cond (f y) 1 0) all (x ∷ xs) same in
       let after = sum_by-IsPermutation (λ y. cond (stays y) 1 0) all (x ∷ xs) same in
-      omega (arith, count-filter f (λ y. not (y.tid == t)) all, before, after, gone, rest, count-cons stays x xs, count-cons f x xs)
+      omega (arith, count-filter f (λ y. not (y.tid == t)) all, number_before, after, gone, rest, count-cons stays x xs, count-cons f x xs)
 
 -- ---- points and newcomers
 
@@ -136,15 +136,15 @@ first_le true b = one_if_le b
 first_le false b = omega arith
 
 module _ (s : Standing) where
-  counted-before : (seen xs : List Standing) → count_by (is_counted s seen) xs ≤ before s xs
+  counted-before : (seen xs : List Standing) → count_by (is_counted s seen) xs ≤ number_before s xs
   counted-before seen xs = count-weaker (is_counted s seen) (λ x. is_before x s) (λ x. first_le (is_before x s) (not (x.top && not (has_entry x.entry seen)))) xs
 
-  before-split : (seen xs : List Standing) → before s xs ≤ count_by (is_counted s seen) xs + new_at_top seen xs
+  before-split : (seen xs : List Standing) → number_before s xs ≤ count_by (is_counted s seen) xs + new_at_top seen xs
   before-split seen xs = count-split (λ x. is_before x s) (is_counted s seen) (λ x. x.top && not (has_entry x.entry seen)) (λ x. counted_or_new (is_before x s) (x.top && not (has_entry x.entry seen))) xs
 
   -- at a dispatch another is taken only by name, or from before s
   abbrev Passes : Point → Type 0
-  Passes q = one_if (takes_another s q) + before s (left_by q.taken q.ready) ≤ one_if (names_another s q) + before s q.ready
+  Passes q = one_if (takes_another s q) + number_before s (left_by q.taken q.ready) ≤ one_if (names_another s q) + number_before s q.ready
 
   within_taken : (later : List Point) (q : Point) → Passes q → IsWithin s later q.ready → IsWithin s (later ++ q ∷ []) (left_by q.taken q.ready)
   unfolding beyond newcomers

@@ -3,7 +3,7 @@ use Rattle.std.specs.Prelude.{◌≡◌, ◌⊎◌, ◌≤◌, ◌<◌, ◌+◌,
 use Rattle.pth_base.specs.declared.ids.HandlerId.{HandlerId}
 use Rattle.pth_store.specs.Keys.{Tables, key_limit, is_unset}
 use Rattle.pth_model.specs.declared.destructors.Due.{Due}
-use Rattle.pth_model.specs.declared.destructors.Round.{Round}
+use Rattle.pth_model.specs.declared.destructors.DestructorRound.{DestructorRound}
 use Rattle.pth_model.specs.Ending.{round_limit}
 
 module _ (x : Tables) (t : ℕ) where
@@ -26,16 +26,16 @@ module _ (x : Tables) (t : ℕ) where
     pub behind : d.round.from ≡ d.key + 1
 
   -- one more round begins, if none is due any more in this one and fewer than four began
-  pub record IsOfNextRound (r : Round) (d : Due) : Type 0 where
+  pub record IsOfNextRound (r : DestructorRound) (d : Due) : Type 0 where
     pub over : NoneOwes r.from key_limit
     pub fewer : r.number < round_limit
     pub first : IsFirst 0 d
     pub more : d.round.number ≡ r.number + 1
 
   -- the next destructor: the first of this round, else the first of the next
-  abbrev pub IsNextDue : Round → Due → Type 0
+  abbrev pub IsNextDue : DestructorRound → Due → Type 0
   IsNextDue r d = (IsFirst r.from d × (d.round.number ≡ r.number)) ⊎ IsOfNextRound r d
 
   -- none is due: neither in this round, nor in another that might begin
-  abbrev pub IsNoneDue : Round → Type 0
+  abbrev pub IsNoneDue : DestructorRound → Type 0
   IsNoneDue r = NoneOwes r.from key_limit × ((round_limit ≤ r.number) ⊎ NoneOwes 0 key_limit)

@@ -9,7 +9,7 @@ use Rattle.pth_ring.specs.declared.event.Status.{Status}
 use Rattle.pth_ring.specs.Ring.{each, ring_holds}
 use Rattle.pth_ring.specs.Rings.{with_status, with_next_look}
 use Rattle.pth_model.specs.State.{State, now_of}
-use Rattle.pth_model.specs.Looks.{holds, found_by, found, next_look, looked_at, after_looks}
+use Rattle.pth_model.specs.Looks.{check_holds, found_by, found, next_look, looked_at, after_looks}
 use Rattle.pth_model.specs.Times.{moment_after}
 
 -- ---- when an event of a function is looked at next: is_due of a moment, and whether its check holds
@@ -49,7 +49,7 @@ module _ (is_due : ℕ → Bool) (next later : ℕ) where
 module _ {P S H : Type 0} (f : P → Functions S H) (s : State P S H) where
   next_again : (next : ℕ) (spec : EventSpec) → next_look f s (next_look f s next spec) spec ≡ next_look f s next spec
   next_again next (of.Func check arg interval) =
-      again_off (λ n. nat_le n (now_of s.control)) next (moment_after (now_of s.control) interval) (nat_le next (now_of s.control)) (holds f s check arg) refl
+      again_off (λ n. nat_le n (now_of s.control)) next (moment_after (now_of s.control) interval) (nat_le next (now_of s.control)) (check_holds f s check arg) refl
   next_again next (of.Fd goals fd) = refl
   next_again next (of.Select r w x) = refl
   next_again next (of.Time at) = refl
@@ -60,7 +60,7 @@ module _ {P S H : Type 0} (f : P → Functions S H) (s : State P S H) where
   found_again : (e next : ℕ) (spec : EventSpec) → found f s e (next_look f s next spec) spec ≡ found f s e next spec
   found_again e next (of.Func check arg interval) =
       ap (found_by false)
-      (again_due (λ n. nat_le n (now_of s.control)) next (moment_after (now_of s.control) interval) (nat_le next (now_of s.control)) (holds f s check arg))
+      (again_due (λ n. nat_le n (now_of s.control)) next (moment_after (now_of s.control) interval) (nat_le next (now_of s.control)) (check_holds f s check arg))
   found_again e next (of.Fd goals fd) = refl
   found_again e next (of.Select r w x) = refl
   found_again e next (of.Time at) = refl

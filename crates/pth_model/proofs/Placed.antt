@@ -104,7 +104,7 @@ gives_up-own t x u e = same_some t u e
 gave_after : (t : ℕ) (n : Next) (x : Turn) → x.gave ≡ None → Gives t (turn_after t n x).gave
 gave_after t (next.Done a) x none u e = absurd (none_some u (sym none ∙ e))
 gave_after t (next.Yields a) x none u e = gives_up-own t x u e
-gave_after t next.Waits x none u e = gives_up-own t x u e
+gave_after t next.Blocks x none u e = gives_up-own t x u e
 gave_after t (next.Ended v) x none u e = gives_up-own t (ends_run v (t == main) x) u e
 gave_after t next.Killed x none u e = absurd (none_some u (sym none ∙ e))
 

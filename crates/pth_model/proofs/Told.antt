@@ -36,7 +36,7 @@ use Rattle.pth_model.specs.Rows.{row_of}
 use Rattle.pth_model.specs.Mutexes.{mutex_release}
 use Rattle.pth_model.specs.Ending.{ending, undoes_wait, dies, runs_each, runs_cleanups, runs_destructor, runs_destructors, destructs, destructs_by, next_destructor, round_limit, first_round, gives_mutexes, gives_locks, gives_all}
 use Rattle.pth_model.specs.declared.destructors.Due.{Due}
-use Rattle.pth_model.specs.declared.destructors.Round.{Round as DestructorRound}
+use Rattle.pth_model.specs.declared.destructors.DestructorRound.{DestructorRound}
 use Rattle.pth_model.specs.Conditions.{cond_notify, can_take, is_noticed, leaves_seat, hands_on_seats}
 use Rattle.pth_model.specs.Acts.{acts, acts_by, acts_from, act_limit, answer_in, handled, goes_on_after, runs_handler}
 use Rattle.pth_model.specs.KeyStorage.{key_set}

@@ -61,7 +61,7 @@ use Rattle.pth_model.specs.LibraryControl.{ctrl, vanish_all_but}
 use Rattle.pth_model.specs.AttributeHandling.{object, sets_field, sets_value}
 use Rattle.pth_model.specs.Ending.{ending, undoes_wait, runs_cleanups, runs_destructors, gives_mutexes, gives_all, leaves, runs_each, destructs, destructs_by, next_destructor, round_limit, first_round}
 use Rattle.pth_model.specs.declared.destructors.Due.{Due}
-use Rattle.pth_model.specs.declared.destructors.Round.{Round as DestructorRound}
+use Rattle.pth_model.specs.declared.destructors.DestructorRound.{DestructorRound}
 use Rattle.pth_model.specs.Acts.{acts, acts_from, act_limit, row_of_act, goes_on_after, runs_handler}
 use Rattle.pth_model.specs.Cleanups.{runs_pushed, last_pushed}
 use Rattle.pth_model.specs.Resources.{handler}
@@ -783,7 +783,7 @@ module _ {P S H : Type 0} (f : P → Functions S H) (t : ℕ) (Q : Control P S H
   owes_keeps : (n : Next) (k : Control P S H) → Q k → Q (owes_after t n k)
   owes_keeps (next.Done a) k q = kept.goes t (owing a) k (λ p odd. odd) q
   owes_keeps (next.Yields a) k q = kept.goes t (owing a) k (λ p odd. odd) q
-  owes_keeps next.Waits k q = q
+  owes_keeps next.Blocks k q = q
   owes_keeps (next.Ended v) k q = q
   owes_keeps next.Killed k q = q
 

@@ -48,8 +48,8 @@ unfoldable pub is_before : Standing → Standing → Bool
 is_before x y = if int_lt (height y) (height x) then true else (if int_lt (height x) (height y) then false else nat_lt x.entry y.entry)
 
 -- how many of these stand before it
-abbrev pub before : Standing → List Standing → ℕ
-before s all = count_by (λ x. is_before x s) all
+abbrev pub number_before : Standing → List Standing → ℕ
+number_before s all = count_by (λ x. is_before x s) all
 
 -- how many of these entered at Top, and are not among those that were seen
 abbrev pub new_at_top : (seen all : List Standing) → ℕ
@@ -65,7 +65,7 @@ newcomers seen (p ∷ ps) = new_at_top seen p.ready + newcomers (seen ++ p.ready
 -- at Top
 unfoldable pub beyond : Standing → List Point → ℕ
 beyond s [] = 0
-beyond s (p ∷ ps) = before s p.ready + count_by (names_another s) (p ∷ ps) + newcomers p.ready ps
+beyond s (p ∷ ps) = number_before s p.ready + count_by (names_another s) (p ∷ ps) + newcomers p.ready ps
 
 -- allowed: its grace, and what may come before it at the points after that many
 unfoldable pub allowed : (top : ℕ) → List Point → Standing → ℕ

@@ -44,7 +44,7 @@ module _ {P S H : Type 0} (f : P → Functions S H) (t : ℕ) where
   abbrev pub begun_by : Call → Verdict → Last P S H
   begun_by c (Says a) = tells (mark.Answered (tid t) c a) and_next next.Done a
   begun_by c (Yields a) = tells (mark.Answered (tid t) c a) and_next next.Yields a
-  begun_by c (Blocks a) = waits_by t c a and_next next.Waits
+  begun_by c (Blocks a) = waits_by t c a and_next next.Blocks
   begun_by c (Ends v) = ending f t v and_next next.Ended v
   begun_by c Kills = tells (mark.Answered (tid t) c (answer.Int (pos 1))) and_next next.Killed
 
@@ -63,7 +63,7 @@ module _ {P S H : Type 0} (f : P → Functions S H) (t : ℕ) where
 module _ {P S H : Type 0} (f : P → Functions S H) (t : ℕ) where
   -- t is canceled in the blocked call
   abbrev pub canceled_by : Option Blocked → Last P S H
-  canceled_by None = silent and_next next.Waits
+  canceled_by None = silent and_next next.Blocks
   canceled_by (Some b) = canceled_in f t b.call and_next next.Ended canceled_value
 
 -- the blocked call is answered EINTR in place of blocking on, or with its count if it wrote a part
@@ -90,7 +90,7 @@ module _ {P S H : Type 0} (f : P → Functions S H) (t : ℕ) where
   abbrev pub tried_by : Blocked → Verdict → Last P S H
   tried_by b (Says a) = answers b.call a and_next next.Done a
   tried_by b (Yields a) = answers b.call a and_next next.Yields a
-  tried_by b (Blocks a) = changes (is_blocked_by t (Some (record b { awaits = a }))) and_then tells (mark.Waits (tid t) b.call) and_next next.Waits
+  tried_by b (Blocks a) = changes (is_blocked_by t (Some (record b { awaits = a }))) and_then tells (mark.Waits (tid t) b.call) and_next next.Blocks
   tried_by b (Ends v) = ending f t v and_next next.Ended v
   tried_by b Kills = answers b.call (answer.Int (pos 1)) and_next next.Killed
 
@@ -98,7 +98,7 @@ module _ {P S H : Type 0} (f : P → Functions S H) (t : ℕ) where
   tried b a = effect_of a and_finally tried_by b a.verdict
 
   abbrev pub tried_again_by : Option Blocked → Last P S H
-  tried_again_by None = silent and_next next.Waits
+  tried_again_by None = silent and_next next.Blocks
   tried_again_by (Some b) = λ s. tried b (unless_settled (has_settled s.control.events (ring_given b.call)) ((row_of f s t b.call).again b.awaits)) s
 
   -- the blocked call is tried again
@@ -121,7 +121,7 @@ module _ {P S H : Type 0} (f : P → Functions S H) (t : ℕ) where
 
   abbrev pub retakes_where : Bool → Call → ℤ → Retake → Last P S H
   retakes_where true c m o = retaken_as c m o
-  retakes_where false c m o = changes (blocks t c (Retaking m o)) and_then tells (mark.Retakes (tid t) c) and_next next.Waits
+  retakes_where false c m o = changes (blocks t c (Retaking m o)) and_then tells (mark.Retakes (tid t) c) and_next next.Blocks
 
   abbrev pub retakes : Call → ℤ → Retake → Last P S H
   retakes c m o s = retakes_where (can_take s t m) c m o s
@@ -135,7 +135,7 @@ module _ {P S H : Type 0} (f : P → Functions S H) (t : ℕ) where
       takes_request t k and_finally ends_await (hands_on_seats t (record { what = Notice c; ring = ring_given k })) k m Canceled
   awaits_on_where false true settled k c m = ends_await (leaves_seat t (Notice c)) k m Notified
   awaits_on_where false false true k c m = ends_await (leaves_seat t (Notice c)) k m Interrupted
-  awaits_on_where false false false k c m = tells (mark.Waits (tid t) k) and_next next.Waits
+  awaits_on_where false false false k c m = tells (mark.Waits (tid t) k) and_next next.Blocks
 
   abbrev pub awaits_on : (c m e : ℤ) → Awaits → Last P S H
   awaits_on c m e (Retaking n o) = ends_await nothing (call.CondAwait c m e) m o
@@ -150,7 +150,7 @@ module _ {P S H : Type 0} (f : P → Functions S H) (t : ℕ) where
   gone_on_in c a = λ s. gone_on_where f t (may_be_canceled s.control t) s
 
   abbrev pub gone_on_by : Option Blocked → Last P S H
-  gone_on_by None = silent and_next next.Waits
+  gone_on_by None = silent and_next next.Blocks
   gone_on_by (Some b) = gone_on_in b.call b.awaits
 
   -- it is canceled if it may be, and else the blocked call is tried again

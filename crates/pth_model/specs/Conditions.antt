@@ -6,7 +6,7 @@ use Rattle.pth_numbered.specs.Operands.{is_zero}
 use Rattle.pth_lock.specs.Mutexes.{mutex_release_answer, mutex_take_answer}
 use Rattle.pth_cond.specs.declared.seats.Seat.{Seat}
 use Rattle.pth_cond.specs.declared.seats.Seat.TheVariants.{Await}
-use Rattle.pth_cond.specs.Conditions.{cond_init_answer, cond_notify_answer, cond_initialised, cond_notified, is_live, is_marked, seat_entered, seat_left, seat_handed_on}
+use Rattle.pth_cond.specs.Conditions.{cond_init_answer, cond_notify_answer, cond_initialised, cond_notified, is_initialised, is_marked, seat_entered, seat_left, seat_handed_on}
 use Rattle.pth_model.specs.declared.awaits.Awaited.{Awaited}
 use Rattle.pth_model.specs.declared.awaits.Awaits.{Awaits}
 use Rattle.pth_model.specs.declared.awaits.Awaits.TheVariants.{Nothing, Notice}
@@ -44,7 +44,7 @@ module _ {P S H : Type 0} (s : State P S H) (t : ℕ) where
 
   abbrev pub begins_await : (c m e : ℤ) → Verdict
   begins_await c m e =
-      refused EINVAL when not (is_live s.control.conditions c) || is_no_ring s (extra_ring e) otherwise
+      refused EINVAL when not (is_initialised s.control.conditions c) || is_no_ring s (extra_ring e) otherwise
       by_result (λ released. refused EBUSY when is_claimed_ring s (extra_ring e) otherwise Blocks (Notice c))
       (mutex_release_answer s.resources.store.mutexes t m)
 

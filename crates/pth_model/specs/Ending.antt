@@ -14,7 +14,7 @@ use Rattle.pth_lock.specs.RwLocks.{LockTables, holds}
 use Rattle.pth_store.specs.Cleanups.{PushedHandler}
 use Rattle.pth_store.specs.Keys.{Tables, key_limit, first_live}
 use Rattle.pth_model.specs.declared.destructors.Due.{Due}
-use Rattle.pth_model.specs.declared.destructors.Round.{Round}
+use Rattle.pth_model.specs.declared.destructors.DestructorRound.{DestructorRound}
 use Rattle.pth_model.specs.Transition.{Piece, Change, silent, changes, tells, tells_each, tid, ◌and◌, ◌and_then◌}
 use Rattle.pth_model.specs.Barriers.{withdraws_from}
 use Rattle.pth_model.specs.Changes.{sets, enters, leaves_queue, removes, runs_now, entry_of, or_nobody, blocked_of}
@@ -25,7 +25,7 @@ use Rattle.pth_model.specs.Acts.{handled, runs_handler}
 abbrev pub round_limit : ℕ
 round_limit = 4
 
-abbrev pub first_round : Round
+abbrev pub first_round : DestructorRound
 first_round = record { number = 1; from = 0 }
 
 -- a destructor that is owed a value, in a round
@@ -33,13 +33,13 @@ abbrev pub due : ℕ → ℕ × HandlerId × ℤ → Due
 due n o = record { key = o.0; handler = o.1; value = o.2; round = record { number = n; from = o.0 + 1 } }
 
 -- by: the first key of this round to which a destructor is owed, and the first of all
-abbrev pub due_by : Round → Option (ℕ × HandlerId × ℤ) → Option (ℕ × HandlerId × ℤ) → Option Due
+abbrev pub due_by : DestructorRound → Option (ℕ × HandlerId × ℤ) → Option (ℕ × HandlerId × ℤ) → Option Due
 due_by r (Some o) first = Some (due r.number o)
 due_by r None (Some o) = if nat_lt r.number round_limit then Some (due (r.number + 1) o) else None
 due_by r None None = None
 
 -- the next destructor of t: the first that is owed in this round, else the first of one more round
-unfoldable pub next_destructor : Tables → ℕ → Round → Option Due
+unfoldable pub next_destructor : Tables → ℕ → DestructorRound → Option Due
 next_destructor x t r = due_by r (first_live x t r.from) (first_live x t 0)
 
 -- the thread that runs, unless it is t
@@ -75,12 +75,12 @@ module _ {P S H : Type 0} where
   abbrev pub runs_destructor : (P → Functions S H) → ℕ → Due → Piece P S H
   runs_destructor f t d = tells (Destructor (tid t) d.key d.value) and_then handled f t d.handler d.value
 
-  abbrev pub destructs_by : (P → Functions S H) → ℕ → Option Due → (Round → Piece P S H) → Piece P S H
+  abbrev pub destructs_by : (P → Functions S H) → ℕ → Option Due → (DestructorRound → Piece P S H) → Piece P S H
   destructs_by f t None next = silent
   destructs_by f t (Some d) next = runs_destructor f t d and_then next d.round
 
   -- at most n destructors, from here in a round on
-  unfoldable pub destructs : (P → Functions S H) → ℕ → ℕ → Round → Piece P S H
+  unfoldable pub destructs : (P → Functions S H) → ℕ → ℕ → DestructorRound → Piece P S H
   destructs f t zero r s = silent s
   destructs f t (suc n) r s = destructs_by f t (next_destructor s.resources.store.keys t r) (destructs f t n) s
 

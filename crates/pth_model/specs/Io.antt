@@ -10,7 +10,7 @@ use Rattle.pth_base.specs.declared.ids.FdSet.{FdSet}
 use Rattle.pth_model.specs.declared.awaits.Awaits.{Awaits}
 use Rattle.pth_model.specs.declared.awaits.Awaits.TheVariants.{Reading, Writing, Connection, ConnectAnswer, Selection}
 use Rattle.pth_model.specs.declared.verdict.Verdict.{Verdict}
-use Rattle.pth_model.specs.declared.verdict.Verdict.TheVariants.{Blocks}
+use Rattle.pth_model.specs.declared.verdict.Verdict.TheVariants.{Says, Blocks}
 use Rattle.pth_model.specs.Verdict.{refused, says, said_or, by_result}
 use Rattle.pth_numbered.specs.Clauses.{count_or, ◌when◌otherwise◌}
 use Rattle.pth_model.specs.State.{State, now_of}

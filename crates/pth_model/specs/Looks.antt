@@ -12,7 +12,7 @@ use Rattle.pth_ring.specs.declared.event.Status.{Status}
 use Rattle.pth_ring.specs.declared.event.Status.TheVariants.{Pending, Occurred, Failed}
 use Rattle.pth_ring.specs.Rings.{with_status, with_next_look, is_settled}
 use Rattle.pth_ring.specs.Ring.{each}
-use Rattle.pth_cond.specs.Conditions.{is_live, is_marked}
+use Rattle.pth_cond.specs.Conditions.{is_initialised, is_marked}
 use Rattle.pth_port.specs.Mail.{is_port, messages_at}
 use Rattle.pth_base.specs.Descriptors.{contains}
 use Rattle.pth_kernel.specs.Kernel.{fd_named, is_fd_live, is_readable, is_writeable, is_exceptional}
@@ -49,7 +49,7 @@ module _ {P S H : Type 0} (s : State P S H) where
   fails (of.Msg p) = not (is_port s.resources.store.mail p)
   fails (of.Tid state t) = not (is_known s.control t)
   fails (of.Func check arg interval) = false
-  fails (of.Cond c) = not (is_live s.control.conditions c)
+  fails (of.Cond c) = not (is_initialised s.control.conditions c)
 
   -- Event e occurs if a descriptor is as its goals say, if a message is queued at its port, if its thread is in its state, or if its
   -- seat at its condition was notified. One of a moment occurs then, and at all later moments (PTH_EVENT_TIME). Whether one of a
@@ -72,18 +72,18 @@ module _ {P S H : Type 0} (s : State P S H) where
 
 module _ {P S H : Type 0} (f : P → Functions S H) (s : State P S H) where
   -- a check holds over the shared value; an operand names a check as one names a handler
-  abbrev pub holds : (check arg : ℤ) → Bool
-  holds check arg = (f s.control.program).check (handler_of check) arg s.control.shared
+  abbrev pub check_holds : (check arg : ℤ) → Bool
+  check_holds check arg = (f s.control.program).check (handler_of check) arg s.control.shared
 
   -- what is found of event e: one of a function occurs if its check holds, but not before its next look
   abbrev pub found : ℕ → (next : ℕ) → EventSpec → Status
-  found e next (of.Func check arg interval) = found_by false (nat_le next (now_of s.control) && holds check arg)
+  found e next (of.Func check arg interval) = found_by false (nat_le next (now_of s.control) && check_holds check arg)
   found e next spec = found_unasked s e spec
 
   -- when an event is to be looked at next: a look that is due and finds that the check does not hold puts it off by the interval
   abbrev pub next_look : (next : ℕ) → EventSpec → ℕ
   next_look next (of.Func check arg interval) =
-      if nat_le next (now_of s.control) && not (holds check arg) then moment_after (now_of s.control) interval else next
+      if nat_le next (now_of s.control) && not (check_holds check arg) then moment_after (now_of s.control) interval else next
   next_look next spec = next
 
   -- an event that is looked at
@@ -105,7 +105,7 @@ module _ {P S H : Type 0} (f : P → Functions S H) (s : State P S H) where
   -- the moment at which an event occurs, 0 where none is known: that of a function is its next look, if its check holds now
   abbrev pub occurs_at : (next : ℕ) → EventSpec → ℕ
   occurs_at next (of.Time at) = at
-  occurs_at next (of.Func check arg interval) = if holds check arg then next else 0
+  occurs_at next (of.Func check arg interval) = if check_holds check arg then next else 0
   occurs_at next spec = 0
 
   abbrev pub event_moment : Option Event → ℕ

@@ -66,7 +66,7 @@ ends_run v false x = x
 abbrev pub turn_after : ℕ → Next → Turn → Turn
 turn_after t (next.Done a) x = x
 turn_after t (next.Yields a) x = gives_up t x
-turn_after t next.Waits x = gives_up t x
+turn_after t next.Blocks x = gives_up t x
 turn_after t (next.Ended v) x = gives_up t (ends_run v (t == main) x)
 turn_after t next.Killed x = record x { outcome = outcome.Killed }
 
@@ -127,12 +127,12 @@ module _ {P S H : Type 0} where
   abbrev pub owes_after : ℕ → Next → Change P S H
   owes_after t (next.Done a) = owes t a
   owes_after t (next.Yields a) = owes t a
-  owes_after t next.Waits = nothing
+  owes_after t next.Blocks = nothing
   owes_after t (next.Ended v) = nothing
   owes_after t next.Killed = nothing
 
-  abbrev pub settled : Turn → ℕ → Went P S H → Course P S H
-  settled x t w = record { state = controlled (owes_after t w.next) w.told.state; turn = turn_after t w.next x; marks = w.told.marks }
+  abbrev pub step_completed : Turn → ℕ → Went P S H → Course P S H
+  step_completed x t w = record { state = controlled (owes_after t w.next) w.told.state; turn = turn_after t w.next x; marks = w.told.marks }
 
   -- the program's step leaves this
   abbrev pub stepping : ℕ → Stepped S H → Change P S H
@@ -204,7 +204,7 @@ module _ {P S H : Type 0} (f : P → Functions S H) where
   steps_on t s = steps_by t (blocked_of s.control t) (s.control.threads.progress t) s
 
   unfoldable pub steps : Turn → ℕ → State P S H → Course P S H
-  steps x t s = settled (record x { steps = x.steps + 1 }) t (steps_on t s)
+  steps x t s = step_completed (record x { steps = x.steps + 1 }) t (steps_on t s)
 
   abbrev pub part_by : Turn → State P S H → Part → Course P S H
   part_by x s Move = moves x s

@@ -1,5 +1,5 @@
 -- What an attempt at a call comes to, and how its row says so.
-use Rattle.std.specs.Prelude.{ℕ, nat_lt, pos, Bool, true, false, Option, Some, None, Result, Ok, Err}
+use Rattle.std.specs.Prelude.{ℕ, pos, Option, Some, None, Result, Ok, Err}
 use Rattle.pth_base.specs.declared.answer.Answer.{Answer}
 use Rattle.pth_base.specs.declared.answer.Answer.TheVariants.{Int, Fail}
 use Rattle.pth_base.specs.declared.errno.Errno.{Errno}

@@ -4,7 +4,7 @@ use pth_base::ids::HandlerId;
 
 /// How far a thread that ends is in its destructors: in the round of this number, from 1 to 4, from this key on.
 #[derive(Clone, Copy)]
-pub struct Round {
+pub struct DestructorRound {
     pub number: u8,
     pub from: u16,
 }
@@ -15,5 +15,5 @@ pub struct Due {
     pub key: u8,
     pub handler: HandlerId,
     pub value: i64,
-    pub round: Round,
+    pub round: DestructorRound,
 }

@@ -94,12 +94,12 @@ port_create_answer x q name =
     Ok (x.made + 1)
 
 -- the port of a name
-abbrev pub found : Option ℕ → Result ℕ Errno
-found None = Err ENOENT
-found (Some p) = Ok p
+abbrev pub port_or_error : Option ℕ → Result ℕ Errno
+port_or_error None = Err ENOENT
+port_or_error (Some p) = Ok p
 
 abbrev pub port_find_answer : PortNames → List ℕ → Result ℕ Errno
-port_find_answer x name = found (port_named name x.names x.made)
+port_find_answer x name = port_or_error (port_named name x.names x.made)
 
 -- how many messages are queued at a port
 abbrev pub port_pending_answer : Mail → ℤ → Result ℕ Errno

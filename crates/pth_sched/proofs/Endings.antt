@@ -52,7 +52,7 @@ use Rattle.pth_model.specs.Calls.{begun, begun_by, gone_on, gone_on_where, tried
 use Rattle.pth_model.specs.EventHandling.{spec_of, made_as, make_event, chain, wait, number_or_none, status_number}
 use Rattle.pth_model.specs.RingWaits.{extra_ring, ring_given, has_settled, is_no_ring, is_claimed_ring, stops_waiting}
 use Rattle.pth_cond.specs.Barriers.{arrival_answer, barrier_init_answer, has_passed, round_answer, round_answered, taillight}
-use Rattle.pth_cond.specs.Conditions.{cond_init_answer, cond_notify_answer, is_live}
+use Rattle.pth_cond.specs.Conditions.{cond_init_answer, cond_notify_answer, is_initialised}
 use Rattle.pth_cond.specs.declared.barriers.Arrival.{Arrival}
 use Rattle.pth_cond.specs.declared.barriers.Arrival.TheVariants.{Waits, Tail}
 use Rattle.pth_model.specs.Barriers.{arrived_as, tries_round}
@@ -317,7 +317,7 @@ module _ {P S H : Type 0} (f : P → Functions S H) (s : State P S H) (t : ℕ) 
 
   -- a wait at a condition
   await_on : (c m e : ℤ) → EndsNot (begins_await s t c m e)
-  await_on c m e = seated_on (not (is_live s.control.conditions c) || is_no_ring s (extra_ring e)) (mutex_release_answer s.resources.store.mutexes t m) (is_claimed_ring s (extra_ring e)) (Notice c)
+  await_on c m e = seated_on (not (is_initialised s.control.conditions c) || is_no_ring s (extra_ring e)) (mutex_release_answer s.resources.store.mutexes t m) (is_claimed_ring s (extra_ring e)) (Notice c)
 
   ctrl_again_on : (q : Query) (a : Awaits) → EndsNot ((ctrl s q).again a).verdict
   ctrl_again_on query.Threads a v h = cc h
@@ -601,7 +601,7 @@ module _ {P S H : Type 0} (f : P → Functions S H) (t : ℕ) (v : ℤ) where
 turn_ended : (t : ℕ) (v : ℤ) (n : Next) (x : Turn) → x.outcome ≡ Running → (turn_after t n x).outcome ≡ Ended v → ((t == main) ≡ true) × (n ≡ next.Ended v)
 turn_ended t v (next.Done a) x on e = absurd (running_ended v (sym on ∙ e))
 turn_ended t v (next.Yields a) x on e = absurd (running_ended v (sym on ∙ e))
-turn_ended t v next.Waits x on e = absurd (running_ended v (sym on ∙ e))
+turn_ended t v next.Blocks x on e = absurd (running_ended v (sym on ∙ e))
 turn_ended t v next.Killed x on e = absurd (cc e)
 turn_ended t v (next.Ended y) x on e = by_main (t == main) refl e
   where

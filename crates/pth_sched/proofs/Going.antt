@@ -100,7 +100,7 @@ module _ {P S H : Type 0} where
   names_none : (t : ℕ) (n : Next) (x : Turn) (w v : WorldOf P S H) → (turn_after t n x).gave ≡ None → Names (yields_after n) w v → v.scheduler.preferred ≡ w.scheduler.preferred
   names_none t (next.Done a) x w v gave named = named
   names_none t (next.Yields a) x w v gave named = absurd (cc gave)
-  names_none t next.Waits x w v gave named = named
+  names_none t next.Blocks x w v gave named = named
   names_none t (next.Ended n) x w v gave named = named
   names_none t next.Killed x w v gave named = named
 
@@ -108,7 +108,7 @@ module _ {P S H : Type 0} where
 gives_own : (t : ℕ) (n : Next) (x : Turn) → x.gave ≡ None → IfSome (turn_after t n x).gave (λ g. IfSome (runs_after t n) (λ r. r ≡ g))
 gives_own t (next.Done a) x none = subst (λ (o : Option ℕ). IfSome o (λ g. IfSome (Some t) (λ r. r ≡ g))) (sym none) tt
 gives_own t (next.Yields a) x none = refl
-gives_own t next.Waits x none = refl
+gives_own t next.Blocks x none = refl
 gives_own t (next.Ended v) x none = tt
 gives_own t next.Killed x none = subst (λ (o : Option ℕ). IfSome o (λ g. IfSome (Some t) (λ r. r ≡ g))) (sym none) tt
 

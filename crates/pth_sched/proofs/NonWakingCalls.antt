@@ -129,7 +129,7 @@ module _ {P S H : Type 0} (t : ℕ) where
   pub owes_non_waking : (n : Next) (s : State P S H) → IsNonWaking t s (controlled (owes_after t n) s)
   owes_non_waking (next.Done a) s = goes_non_waking _ s
   owes_non_waking (next.Yields a) s = goes_non_waking _ s
-  owes_non_waking next.Waits s = non_waking_same t s
+  owes_non_waking next.Blocks s = non_waking_same t s
   owes_non_waking (next.Ended v) s = non_waking_same t s
   owes_non_waking next.Killed s = non_waking_same t s
 

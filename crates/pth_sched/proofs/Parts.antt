@@ -191,7 +191,7 @@ steps_again {S = S} f t s blocked = by_blocked (blocked_of s.control t) (s.contr
 pub after_memory : (t : ℕ) (n : Next) (x : Turn) → x.outcome ≢ OutOfMemory → (turn_after t n x).outcome ≢ OutOfMemory
 after_memory t (next.Done a) x memory = memory
 after_memory t (next.Yields a) x memory = memory
-after_memory t next.Waits x memory = memory
+after_memory t next.Blocks x memory = memory
 after_memory t next.Killed x memory = λ e. cc e
 after_memory t (next.Ended v) x memory = by_main (t == main)
   where
@@ -203,7 +203,7 @@ after_memory t (next.Ended v) x memory = by_main (t == main)
 pub turn_steps : (t : ℕ) (n : Next) (x : Turn) → (turn_after t n x).steps ≡ x.steps
 turn_steps t (next.Done a) x = refl
 turn_steps t (next.Yields a) x = refl
-turn_steps t next.Waits x = refl
+turn_steps t next.Blocks x = refl
 turn_steps t next.Killed x = refl
 turn_steps t (next.Ended v) x = by_main (t == main)
   where
@@ -214,7 +214,7 @@ turn_steps t (next.Ended v) x = by_main (t == main)
 pub turn_turns : (t : ℕ) (n : Next) (x : Turn) → (turn_after t n x).turns ≡ x.turns
 turn_turns t (next.Done a) x = refl
 turn_turns t (next.Yields a) x = refl
-turn_turns t next.Waits x = refl
+turn_turns t next.Blocks x = refl
 turn_turns t next.Killed x = refl
 turn_turns t (next.Ended v) x = by_main (t == main)
   where

@@ -46,7 +46,7 @@ waits_without_waking k (call.SelectEv r w x l e) = true
 waits_without_waking k c = false
 
 abbrev pub is_waiting : Next → Bool
-is_waiting next.Waits = true
+is_waiting next.Blocks = true
 is_waiting n = false
 
 -- the call that blocks a thread is non-waking if it waits on

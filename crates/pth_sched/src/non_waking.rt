@@ -46,7 +46,7 @@ fn is_waiting(next: &Next) -> bool
     ensures { result ≡ waits_on next.now }
 {
     match next {
-        Next::Waits => true,
+        Next::Blocks => true,
         _ => false,
     }
 }

@@ -181,7 +181,7 @@ impl<P: Program> Schedule<P> {
                 self.world.owe(t, answer);
                 self.gave = Some(t);
             }
-            Next::Waits => self.gave = Some(t),
+            Next::Blocks => self.gave = Some(t),
             Next::Ended(value) => {
                 if t.0 == MAIN {
                     self.outcome = Outcome::Ended(value);

@@ -11,7 +11,7 @@ use Rattle.pth_ring.specs.Ring.{ring_holds}
 use Rattle.pth_ring.specs.declared.event.Event.{Event}
 use Rattle.pth_ring.specs.declared.event.Status.TheVariants.{Pending, Occurred, Failed}
 use Rattle.pth_cond.specs.Seats.{is_at, handed_on}
-use Rattle.pth_cond.specs.declared.seats.Notice.TheVariants.{Unmarked}
+use Rattle.pth_cond.specs.declared.seats.SeatMark.TheVariants.{Unmarked}
 use Rattle.pth_cond.specs.declared.seats.Seat.{Seat}
 use Rattle.pth_cond.specs.declared.seats.Taken.{Taken}
 use Rattle.pth_lock.specs.Objects.{object_named}
@@ -54,7 +54,7 @@ waits_for_condition c (Some x) = is_of_condition c x.spec
 
 -- the seat of an event as it is entered: it is not notified
 abbrev pub new_seat : ℕ → Taken
-new_seat e = record { seat = event_seat e; notice = Unmarked }
+new_seat e = record { seat = event_seat e; mark = Unmarked }
 
 -- those of these events, in this order
 abbrev pub entered_by : List ℕ → List Taken

@@ -76,11 +76,11 @@ module _ {P S H : Type 0} where
 
   -- the call suspends the execution of its thread until a has come
   abbrev pub waits_for : Awaits → Outcome P S H
-  waits_for a s t c = went (blocks t c a s) (mark.Waits (tid t) c ∷ []) next.Waits
+  waits_for a s t c = went (blocks t c a s) (mark.Waits (tid t) c ∷ []) next.Blocks
 
   -- the call waits on, and nothing changes
   abbrev pub still_waits : Outcome P S H
-  still_waits s t c = went s (mark.Waits (tid t) c ∷ []) next.Waits
+  still_waits s t c = went s (mark.Waits (tid t) c ∷ []) next.Blocks
 
   -- the transcript has a line for a note
   abbrev pub notes : ℤ → Outcome P S H
@@ -93,7 +93,7 @@ module _ {P S H : Type 0} where
   -- the wait at a condition is over, and the call suspends its thread until the mutex m can be reacquired (pth_cond_await)
   abbrev pub waits_to_retake : ℤ → Retake → Outcome P S H
   waits_to_retake m o s t c =
-      went (blocks t c (Retaking m o) s) (mark.Retakes (tid t) c ∷ []) next.Waits
+      went (blocks t c (Retaking m o) s) (mark.Retakes (tid t) c ∷ []) next.Blocks
 
   -- t reacquires the mutex m, and then o follows; while another thread has m, the call suspends t
   abbrev pub retakes : ℤ → Retake → Outcome P S H → Outcome P S H

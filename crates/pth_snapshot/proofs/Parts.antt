@@ -83,7 +83,7 @@ module _ {P S H : Type 0} (f : P → Functions S H) where
   unfolding goes_on
   owed_running t (next.Done a) k = refl
   owed_running t (next.Yields a) k = refl
-  owed_running t next.Waits k = refl
+  owed_running t next.Blocks k = refl
   owed_running t (next.Ended v) k = refl
   owed_running t next.Killed k = refl
 
@@ -91,7 +91,7 @@ module _ {P S H : Type 0} (f : P → Functions S H) where
   step_goes_by : (x : Turn) (t : ℕ) (r : Option ℕ) (o : Next) → ((a : Answer) → o ≡ next.Done a → r ≡ Some t) → (turn_after t o x).gave ≡ None → r ≡ None → (turn_after t o x).outcome ≡ Running → ⊥
   step_goes_by x t r (next.Done a) runs gave nobody goes = (let h = sym (runs a refl) ∙ nobody in cc h)
   step_goes_by x t r (next.Yields a) runs gave nobody goes = cc gave
-  step_goes_by x t r next.Waits runs gave nobody goes = cc gave
+  step_goes_by x t r next.Blocks runs gave nobody goes = cc gave
   step_goes_by x t r (next.Ended v) runs gave nobody goes = cc gave
   step_goes_by x t r next.Killed runs gave nobody goes = cc goes
 

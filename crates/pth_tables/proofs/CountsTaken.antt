@@ -6,7 +6,7 @@ use Rattle.std.proofs.lemmas.List.Elements.{All-weaker, All-filter, All-contains
 use Rattle.pth_base.specs.Limits.{thread_limit}
 use Rattle.pth_base.proofs.Tables.{same_self, not_same}
 use Rattle.pth_model.specs.Standing.{Standing, order, left_by}
-use Rattle.pth_model.specs.Allowance.{Point, has_entry, points, standing_of, takes_another, names_another, waited, before, grace, new_at_top, beyond, allowed}
+use Rattle.pth_model.specs.Allowance.{Point, has_entry, points, standing_of, takes_another, names_another, waited, number_before, grace, new_at_top, beyond, allowed}
 use Rattle.pth_tables.specs.declared.waits.Wait.{Wait}
 use Rattle.pth_tables.specs.Waits.{WaitsOf, words, one_more, seen_at_top, number_of, waited_by, is_due, reached_all, met, dispatched, is_counting, takes_ready, late_by, allowed_by, allowed_taken}
 use Rattle.pth_tables.specs.Counts.{AreSameWord, Lasts, IsCounted, Counts, AreSlotsOf, HaveOwnSlots}
@@ -124,13 +124,13 @@ module _ (slot : ℕ → Option ℕ) (x : WaitsOf) (trail : List Point) (q : Poi
     stood : has_entry s.entry q.ready ≡ true
     stood = has-contained s q.ready has
 
-    number-due : waited_by k.at x ≡ (x.waits k.at).grace → ((met us x).waits k.at).number ≡ (before s q.ready + (words - total % words)) % words
+    number-due : waited_by k.at x ≡ (x.waits k.at).grace → ((met us x).waits k.at).number ≡ (number_before s q.ready + (words - total % words)) % words
     number-due now =
         let r = slot-at slot us q.ready entries s k.at c.numbered c.once apart are has k.has_slot in
         ap (λ l. ((reached_all 0 l (seen_at_top x)).waits k.at).number) r.is
         ∙ is-reached 0 r.front k.at r.back (seen_at_top x) r.apart (due-yes k.at now)
         ∙ number-new (0 + length r.front)
-        ∙ ap (λ n. (n + (words - total % words)) % words) (let l = r.long in let e : 0 + length r.front ≡ before s q.ready = omega arith in e)
+        ∙ ap (λ n. (n + (words - total % words)) % words) (let l = r.long in let e : 0 + length r.front ≡ number_before s q.ready = omega arith in e)
 
     -- what may come before it at the points after its grace, with this dispatch
     abbrev owed : ℕ
@@ -147,7 +147,7 @@ module _ (slot : ℕ → Option ℕ) (x : WaitsOf) (trail : List Point) (q : Poi
         let since = k.since in
         let first = k.first in
         subst (λ n. Owes n total) (sym (number-due (omega arith)))
-        (more-both _ _ (cond (names_another s q) 1 0) (number-same (before s q.ready) total)
+        (more-both _ _ (cond (names_another s q) 1 0) (number-same (number_before s q.ready) total)
         ∙ ap (λ n. n % words) (sym (beyond-at trail q s (grace x.top s.rank) stood now)))
 
     owes-later : grace x.top s.rank < length (points s.entry trail) → Owes number total

@@ -6,7 +6,7 @@ use Rattle.std.proofs.lemmas.List.Elements.{All-nil, All-cons, All-head, All-tai
 use Rattle.std.proofs.lemmas.List.Sorted.{IsPermutation-sym, Contains-permutation, sum_by-IsPermutation}
 use Rattle.pth_base.proofs.Tables.{same_self, same_fails}
 use Rattle.pth_model.specs.Standing.{Standing, order}
-use Rattle.pth_model.specs.Allowance.{is_before, before}
+use Rattle.pth_model.specs.Allowance.{is_before, number_before}
 use Rattle.pth_model.specs.Order.{StandsBefore, IsNumbered, stands}
 use Rattle.pth_model.proofs.Sorted.{pairs-head, pairs-tail, same-order, sorted-order}
 use Rattle.pth_tables.specs.Counts.{AreSlotsOf, HaveOwnSlots}
@@ -41,7 +41,7 @@ module _ {X : Type 0} (R : X → X → Type 0) (x : X) where
   pairs-back (y ∷ front) back p = pairs-back front back (pairs-tail R y (front ++ x ∷ back) p)
 
 -- in a list in order as many are before one as stand in front of it
-pub before-middle : (s : Standing) (front back : List Standing) → AllPairs (StandsBefore 0) (front ++ s ∷ back) → before s (front ++ s ∷ back) ≡ length front
+pub before-middle : (s : Standing) (front back : List Standing) → AllPairs (StandsBefore 0) (front ++ s ∷ back) → number_before s (front ++ s ∷ back) ≡ length front
 before-middle s front back p =
     let Test : Standing → Bool = λ x. is_before x s in
     omega (
@@ -83,15 +83,15 @@ module _ (slot : ℕ → Option ℕ) (s : Standing) (u : ℕ) (own : slot s.tid 
       }
 
 -- The slot of a ready thread stands among the slots of the queue with as many in front of it as stand before the thread.
-pub slot-at : (slot : ℕ → Option ℕ) (us : List ℕ) (ready : List Standing) (entries : ℕ) (s : Standing) (u : ℕ) → IsNumbered entries ready → ((t : ℕ) → stands t ready ≤ 1) → HaveOwnSlots slot ready → AreSlotsOf slot us (order ready) → Contains ready s → slot s.tid ≡ Some u → IsAt u us (before s ready)
+pub slot-at : (slot : ℕ → Option ℕ) (us : List ℕ) (ready : List Standing) (entries : ℕ) (s : Standing) (u : ℕ) → IsNumbered entries ready → ((t : ℕ) → stands t ready ≤ 1) → HaveOwnSlots slot ready → AreSlotsOf slot us (order ready) → Contains ready s → slot s.tid ≡ Some u → IsAt u us (number_before s ready)
 slot-at slot us ready entries s u numbered once distinct are has own =
     let r = split (order ready) s (Contains-permutation ready (order ready) s (same-order ready) has) in
     subst (IsAt u us) (place r) (slots-split slot s u own us r.front r.back (subst (AreSlotsOf slot us) r.is are) (others r))
   where
-    place : (r : IsSplit (order ready) s) → length r.front ≡ before s ready
+    place : (r : IsSplit (order ready) s) → length r.front ≡ number_before s ready
     place r =
         sym (before-middle s r.front r.back (subst (AllPairs (StandsBefore 0)) r.is (sorted-order 0 ready numbered.falling)))
-        ∙ ap (before s) (sym r.is)
+        ∙ ap (number_before s) (sym r.is)
         ∙ sum_by-IsPermutation (λ x. cond (is_before x s) 1 0) ready (order ready) (same-order ready)
 
     -- it stands there once

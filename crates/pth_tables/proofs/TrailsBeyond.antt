@@ -6,7 +6,7 @@ use Rattle.std.proofs.lemmas.List.Elements.{All-head, All-tail, All-weaker, All-
 use Rattle.std.proofs.lemmas.List.Folds.{list_any-append}
 use Rattle.std.proofs.lemmas.List.Sums.{length-filter, count_by-le-length}
 use Rattle.pth_model.specs.Standing.{Standing}
-use Rattle.pth_model.specs.Allowance.{Point, has_entry, points, takes_another, names_another, waited, before, new_at_top, newcomers, beyond}
+use Rattle.pth_model.specs.Allowance.{Point, has_entry, points, takes_another, names_another, waited, number_before, new_at_top, newcomers, beyond}
 use Rattle.pth_tables.specs.Counts.{last_ready, Lasts}
 use Rattle.pth_tables.proofs.TrailsCounted.{count-cons, count-push, count-none, count-same, none-counted}
 
@@ -143,7 +143,7 @@ beyond-push s [] q some = absurd (omega arith)
 beyond-push s (p ∷ ps) q some = omega (arith, newcomers-push p.ready ps q, count-push (names_another s) (p ∷ ps) q)
 
 -- the first dispatch that counts
-beyond-first : (s : Standing) (q : Point) → beyond s (q ∷ []) ≡ before s q.ready + cond (names_another s q) 1 0
+beyond-first : (s : Standing) (q : Point) → beyond s (q ∷ []) ≡ number_before s q.ready + cond (names_another s q) 1 0
 unfolding beyond newcomers
 beyond-first s q = omega (arith, count-cons (names_another s) q [])
 
@@ -152,7 +152,7 @@ module _ (trail : List Point) (q : Point) (s : Standing) (c : ℕ) (has : has_en
   later-push le = ap (drop c) (points-push s.entry trail q has) ∙ drop-append-le c (points s.entry trail) (q ∷ []) le
 
   -- the dispatch is the point after c
-  pub beyond-at : length (points s.entry trail) ≡ c → beyond s (drop c (points s.entry (trail ++ q ∷ []))) ≡ before s q.ready + cond (names_another s q) 1 0
+  pub beyond-at : length (points s.entry trail) ≡ c → beyond s (drop c (points s.entry (trail ++ q ∷ []))) ≡ number_before s q.ready + cond (names_another s q) 1 0
   beyond-at now = ap (beyond s) (later-push (omega arith)) ∙ ap (λ l. beyond s (l ++ q ∷ [])) (drop_all c (points s.entry trail) (omega arith)) ∙ beyond-first s q
 
   -- it comes later

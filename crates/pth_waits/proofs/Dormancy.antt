@@ -14,9 +14,9 @@ use Rattle.pth_base.specs.declared.event.EventSpec.TheVariants as of
 use Rattle.pth_base.specs.declared.ids.Tid.{Tid}
 use Rattle.pth_base.proofs.Tables.{put_by}
 use Rattle.pth_cond.specs.Barriers.{BarrierTable, has_passed}
-use Rattle.pth_cond.specs.Conditions.{Condition, ConditionTable, is_live, is_marked, is_marked_in, seat_entered}
-use Rattle.pth_cond.specs.Seats.{is_at, is_marked_at, notice_at, with_seat}
-use Rattle.pth_cond.specs.declared.seats.Notice.TheVariants.{Unmarked}
+use Rattle.pth_cond.specs.Conditions.{Condition, ConditionTable, is_initialised, is_marked, is_marked_in, seat_entered}
+use Rattle.pth_cond.specs.Seats.{is_at, is_marked_at, mark_at, with_seat}
+use Rattle.pth_cond.specs.declared.seats.SeatMark.TheVariants.{Unmarked}
 use Rattle.pth_cond.specs.declared.seats.Seat.{Seat}
 use Rattle.pth_cond.specs.declared.seats.Taken.{Taken}
 use Rattle.pth_lock.specs.Objects.{object_named}
@@ -155,7 +155,7 @@ KeepsRounds x y = (b : ℤ) (round : ℕ) → has_passed x b round ≡ false →
 
 -- the same conditions are initialised, and no seat was notified that had not been
 abbrev pub KeepsSeats : ConditionTable → ConditionTable → Type 0
-KeepsSeats x y = (c : ℤ) → (is_live y c ≡ is_live x c) × ((s : Seat) → is_marked x c s ≡ false → is_marked y c s ≡ false)
+KeepsSeats x y = (c : ℤ) → (is_initialised y c ≡ is_initialised x c) × ((s : Seat) → is_marked x c s ≡ false → is_marked y c s ≡ false)
 
 pub same_seats : (x : ConditionTable) → KeepsSeats x x
 same_seats x = λ c. (refl, λ s none. none)
@@ -167,15 +167,15 @@ pub seats_then : (x y z : ConditionTable) → KeepsSeats x y → KeepsSeats y z 
 seats_then x y z a b = λ c. ((b c).0 ∙ (a c).0, λ s none. (b c).1 s ((a c).1 s none))
 
 -- a seat that is entered has no mark
-none_marked : (s u : Seat) (ts : List Taken) → is_marked_at (notice_at u ts) ≡ false → is_marked_at (notice_at u (with_seat s ts)) ≡ false
-none_marked s u [] none = by_seat (is_at u (record { seat = s; notice = Unmarked }))
+none_marked : (s u : Seat) (ts : List Taken) → is_marked_at (mark_at u ts) ≡ false → is_marked_at (mark_at u (with_seat s ts)) ≡ false
+none_marked s u [] none = by_seat (is_at u (record { seat = s; mark = Unmarked }))
   where
     by_seat : (b : Bool) → is_marked_at (if b then Some Unmarked else None) ≡ false
     by_seat true = refl
     by_seat false = refl
 none_marked s u (t ∷ ts) none = by_seat (is_at u t) (none_marked s u ts) none
   where
-    by_seat : (b : Bool) → (is_marked_at (notice_at u ts) ≡ false → is_marked_at (notice_at u (with_seat s ts)) ≡ false) → is_marked_at (if b then Some t.notice else notice_at u ts) ≡ false → is_marked_at (if b then Some t.notice else notice_at u (with_seat s ts)) ≡ false
+    by_seat : (b : Bool) → (is_marked_at (mark_at u ts) ≡ false → is_marked_at (mark_at u (with_seat s ts)) ≡ false) → is_marked_at (if b then Some t.notice else mark_at u ts) ≡ false → is_marked_at (if b then Some t.notice else mark_at u (with_seat s ts)) ≡ false
     by_seat true rest h = h
     by_seat false rest h = rest h
 
@@ -246,7 +246,7 @@ module _ {P S H : Type 0} where
 
     -- an event of a condition, by whether this is initialised, and the event's seat there was notified
     cond_pending : (e : ℕ) (c : ℤ) → found_unasked s e (of.Cond c) ≡ Pending → found_unasked r e (of.Cond c) ≡ Pending
-    cond_pending e c is = (let h = pending_says (is_live s.control.conditions c) (is_marked s.control.conditions c (event_seat e)) is in rw ((same.seats c).0, h.0, (same.seats c).1 (event_seat e) h.1) refl)
+    cond_pending e c is = (let h = pending_says (is_initialised s.control.conditions c) (is_marked s.control.conditions c (event_seat e)) is in rw ((same.seats c).0, h.0, (same.seats c).1 (event_seat e) h.1) refl)
 
     -- an event of a thread or of a function is not known to stay pending before a later moment
     found_moved : (n e : ℕ) (z : EventSpec) → n < until → now_of r.control ≤ n → IsSteady s until z → found_unasked (controlled (moves_to n) s) e z ≡ Pending → found_unasked (controlled (moves_to n) r) e z ≡ Pending

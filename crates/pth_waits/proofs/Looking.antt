@@ -17,7 +17,7 @@ use Rattle.pth_ring.specs.declared.event.Status.TheVariants.{Pending}
 use Rattle.pth_ring.specs.Arena.{RingsOf, events_of}
 use Rattle.pth_ring.specs.Ring.{RingGoesOn, Begins, from, rest_of, each, ring_holds}
 use Rattle.pth_ring.specs.Rings.{Events, is_pending, is_settled, with_event, with_next_look, with_status}
-use Rattle.pth_model.specs.Looks.{after_looks, comes, found, found_by, found_unasked, holds, looked_at, looks_at, next_look}
+use Rattle.pth_model.specs.Looks.{after_looks, comes, found, found_by, found_unasked, check_holds, looked_at, looks_at, next_look}
 use Rattle.pth_model.specs.State.{Control, State, now_of}
 use Rattle.pth_model.specs.Times.{moment_after}
 use Rattle.pth_model.proofs.Looked.{looked_again}
@@ -88,7 +88,7 @@ module _ {P S H : Type 0} (f : P → Functions S H) (s : State P S H) where
     abbrev with_both : (due check : Bool) → Event → Event
     with_both due check v = with_next_look (if due && not check then moment_after (now_of s.control) interval else next) (with_status (found_by false (due && check)) v)
 
-    function_one : (v : Event) → v.spec ≡ of.Func check arg interval → v.next_look ≡ next → looked_at f s e v ≡ with_both due (holds f s check arg) v
+    function_one : (v : Event) → v.spec ≡ of.Func check arg interval → v.next_look ≡ next → looked_at f s e v ≡ with_both due (check_holds f s check arg) v
     function_one v is at =
         ap (λ (z : EventSpec). with_next_look (next_look f s v.next_look z) (with_status (found f s e v.next_look z) v)) is
         ∙ ap (λ (m : ℕ). with_next_look (next_look f s m (of.Func check arg interval)) (with_status (found f s e m (of.Func check arg interval)) v)) at
@@ -98,12 +98,12 @@ module _ {P S H : Type 0} (f : P → Functions S H) (s : State P S H) where
     asked_by true check holds is = (refl, cc is)
     asked_by false check holds is = absurd (cc is)
 
-    function_both : (d c : Bool) (o : Option Event) → IsFunction next check arg interval o → due ≡ d → holds f s check arg ≡ c → look e o ≡ option_map (with_both d c) o
+    function_both : (d c : Bool) (o : Option Event) → IsFunction next check arg interval o → due ≡ d → check_holds f s check arg ≡ c → look e o ≡ option_map (with_both d c) o
     function_both d c None is a b = absurd is
     function_both d c (Some v) is a b = ap (λ (y : Event). Some y) (function_one v is.0 is.1 ∙ ap₂ (λ (x y : Bool). with_both x y v) a b)
 
-    pub off_looked : (o : Option Event) → IsFunction next check arg interval o → Some false ≡ (if due then Some (holds f s check arg) else None) → option_map (λ (v : Event). with_next_look (moment_after (now_of s.control) interval) (with_status Pending v)) o ≡ look e o
-    off_looked o is asked = (let b = asked_by due (holds f s check arg) false (sym asked) in sym (function_both true false o is b.0 b.1))
+    pub off_looked : (o : Option Event) → IsFunction next check arg interval o → Some false ≡ (if due then Some (check_holds f s check arg) else None) → option_map (λ (v : Event). with_next_look (moment_after (now_of s.control) interval) (with_status Pending v)) o ≡ look e o
+    off_looked o is asked = (let b = asked_by due (check_holds f s check arg) false (sym asked) in sym (function_both true false o is b.0 b.1))
 
     settled_some : (x : Status) (g : Event → Event) (o : Option Event) → IsFunction next check arg interval o → ((v : Event) → (g v).status ≡ x) → is_settled (option_map g o) ≡ not (is_pending x)
     settled_some x g None is status = absurd is

@@ -9,7 +9,7 @@ use Rattle.pth_base.specs.declared.errno.Errno.TheVariants.{EBUSY, EINVAL}
 use Rattle.pth_base.specs.declared.mark.Mark.{Mark}
 use Rattle.pth_base.specs.declared.mark.Mark.TheVariants.{Answered, Retakes, Took, Waits}
 use Rattle.pth_base.specs.declared.memory.OutOfMemory.{OutOfMemory}
-use Rattle.pth_cond.specs.Conditions.{is_live, seat_entered}
+use Rattle.pth_cond.specs.Conditions.{is_initialised, seat_entered}
 use Rattle.pth_lock.specs.Mutexes.{mutex_release_answer, mutex_released, mutex_take_answer, mutex_taken}
 use Rattle.pth_lock.specs.Objects.{object_named}
 use Rattle.pth_model.specs.declared.awaits.Awaits.{Awaits}
@@ -42,7 +42,7 @@ use Rattle.pth_waits.proofs.Carried.{goes_as}
 -- ---- a wait begins
 
 -- by what is tested
-pub begin_by : {P S H : Type 0} (s : State P S H) (t : ℕ) (c m e : ℤ) (dead none claimed : Bool) (r : Result (Unit {0}) Errno) → not (is_live s.control.conditions c) ≡ dead → is_no_ring s (extra_ring e) ≡ none → mutex_release_answer s.resources.store.mutexes t m ≡ r → is_claimed_ring s (extra_ring e) ≡ claimed
+pub begin_by : {P S H : Type 0} (s : State P S H) (t : ℕ) (c m e : ℤ) (dead none claimed : Bool) (r : Result (Unit {0}) Errno) → not (is_initialised s.control.conditions c) ≡ dead → is_no_ring s (extra_ring e) ≡ none → mutex_release_answer s.resources.store.mutexes t m ≡ r → is_claimed_ring s (extra_ring e) ≡ claimed
     → begins_await s t c m e ≡ (refused EINVAL when dead || none otherwise by_result (λ released. refused EBUSY when claimed otherwise Blocks (Notice c)) r)
 begin_by s t c m e dead none claimed r p q u v = rw (p, q, u, v) refl
 
@@ -104,7 +104,7 @@ module _ {P S H : Type 0} (t : ℕ) (m : ℤ) where
           (s, (took_once w v keeps taken s st.0, st.1), sym (ap (λ (b : Bool). retakes_where f t b (CondAwait c m e) m o s) (ap (λ (x : Store). is_ok (mutex_take_answer x.mutexes t m)) st.0.store ∙ ap is_ok can))))
 
       abbrev pub waits_for_mutex : Last P S H
-      waits_for_mutex = changes (blocks t (CondAwait c m e) (Retaking m o)) and_then tells (Retakes (tid t) (CondAwait c m e)) and_next next.Waits
+      waits_for_mutex = changes (blocks t (CondAwait c m e) (Retaking m o)) and_then tells (Retakes (tid t) (CondAwait c m e)) and_next next.Blocks
 
       -- it can't
       pub waits_goes : (w u : WorldOf P S H) (old new : List Mark) (r : Result Next OutOfMemory) → is_ok (mutex_take_answer (store_of w.store).mutexes t m) ≡ false → Goes (StandsFor w) waits_for_mutex u old new r → Goes (StandsWhere w t true) (retakes f t (CondAwait c m e) m o) u old new r
@@ -112,7 +112,7 @@ module _ {P S H : Type 0} (t : ℕ) (m : ℤ) where
           (s, st.0, sym (ap (λ (b : Bool). retakes_where f t b (CondAwait c m e) m o s) (ap (λ (x : Store). is_ok (mutex_take_answer x.mutexes t m)) st.0.store ∙ cannot))))
 
       -- the call blocks its thread again
-      pub blocked_goes : (w u : WorldOf P S H) (old new : List Mark) → ((k : Control P S H) → Shows w k → Shows u (blocks t (CondAwait c m e) (Retaking m o) k)) → u.store ≡ w.store → new ≡ old ++ Retakes (tid t) (CondAwait c m e) ∷ [] → Goes (StandsFor w) waits_for_mutex u old new (Ok next.Waits)
+      pub blocked_goes : (w u : WorldOf P S H) (old new : List Mark) → ((k : Control P S H) → Shows w k → Shows u (blocks t (CondAwait c m e) (Retaking m o) k)) → u.store ≡ w.store → new ≡ old ++ Retakes (tid t) (CondAwait c m e) ∷ [] → Goes (StandsFor w) waits_for_mutex u old new (Ok next.Blocks)
       unfolding told
       blocked_goes w u old new shows same told_so = record {
         next = λ s st. refl;
@@ -159,8 +159,8 @@ module _ {P S H : Type 0} (f : P → Functions S H) (t : ℕ) (c m e : ℤ) wher
       by_awaits b not s = refl
 
   -- it waits on
-  pub still_goes : (w : WorldOf P S H) (old new : List Mark) (r : Result Next OutOfMemory) → IfOk r (λ n. n ≡ next.Waits) → OnOk r (new ≡ old ++ Waits (tid t) (CondAwait c m e) ∷ []) → OnErr r (new ≡ old)
-      → Goes (StandsWhere w t true) (tells (Waits (tid t) (CondAwait c m e)) and_next next.Waits) w old new r
+  pub still_goes : (w : WorldOf P S H) (old new : List Mark) (r : Result Next OutOfMemory) → IfOk r (λ n. n ≡ next.Blocks) → OnOk r (new ≡ old ++ Waits (tid t) (CondAwait c m e) ∷ []) → OnErr r (new ≡ old)
+      → Goes (StandsWhere w t true) (tells (Waits (tid t) (CondAwait c m e)) and_next next.Blocks) w old new r
   unfolding told
   still_goes w old new (Ok n) is told_so kept = record {
     next = λ s st. is;
@@ -170,6 +170,6 @@ module _ {P S H : Type 0} (f : P → Functions S H) (t : ℕ) (c m e : ℤ) wher
   still_goes w old new (Err o) is told_so kept = record { next = tt; leads = tt; cut = λ s st. cut_none old new _ kept }
 
 -- and leaves the world as it is
-pub waits_frame : {P S H : Type 0} (w : WorldOf P S H) (t : ℕ) (r : Result Next OutOfMemory) → IfOk r (λ n. n ≡ next.Waits) → Frame w w no_numbers (Some t) false → IfOk r (λ n. Frame w w no_numbers (runs_after t n) (yields_after n))
+pub waits_frame : {P S H : Type 0} (w : WorldOf P S H) (t : ℕ) (r : Result Next OutOfMemory) → IfOk r (λ n. n ≡ next.Blocks) → Frame w w no_numbers (Some t) false → IfOk r (λ n. Frame w w no_numbers (runs_after t n) (yields_after n))
 waits_frame w t (Ok n) is f = subst (λ (k : Next). Frame w w no_numbers (runs_after t k) (yields_after k)) (sym is) f
 waits_frame w t (Err e) is f = tt

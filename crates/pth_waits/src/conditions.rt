@@ -16,7 +16,8 @@ ghost use Rattle.pth_model.specs.Resources.{with_mutexes};
 ghost use Rattle.pth_model.specs.State.{Control, State};
 ghost use Rattle.pth_model.specs.Transition.{changes, nothing, tells, ◌and_then◌, ◌and_next◌};
 ghost use Rattle.pth_model.specs.declared.awaits.Awaits.TheVariants.{Notice, Retaking};
-ghost use Rattle.pth_model.specs.declared.next.Next.TheVariants.{Ended, Waits};
+ghost use Rattle.pth_model.specs.declared.next.Next.TheVariants.{Ended};
+ghost use Rattle.pth_model.specs.declared.next.Next.TheVariants as next;
 ghost use Rattle.pth_waits.specs.Verdicts.{Begins};
 ghost use Rattle.pth_world.specs.Frame.{Frame, runs_after, yields_after};
 ghost use Rattle.pth_world.specs.Leading.{Goes, StandsOnce, StandsWhere};
@@ -188,7 +189,7 @@ fn wait_for_mutex<P: Program>(
 ) -> Result<Next, OutOfMemory>
     requires whole { WellFormed w.old }
     requires runs { w.old.scheduler.running ≡ Some t.0 }
-    ensures goes { Goes (StandsFor w.old) (λ (s : State P P.State P.Shared). (changes (blocks t.0 (CondAwait c m e) (Retaking m outcome)) and_then tells (Retakes t (CondAwait c m e)) and_next Waits) s) w.new marks.old marks.new result }
+    ensures goes { Goes (StandsFor w.old) (λ (s : State P P.State P.Shared). (changes (blocks t.0 (CondAwait c m e) (Retaking m outcome)) and_then tells (Retakes t (CondAwait c m e)) and_next next.Blocks) s) w.new marks.old marks.new result }
     ensures frame { IfOk result (λ n. Frame w.old w.new no_numbers (runs_after t.0 n) (yields_after n)) }
 {
     w.block(
@@ -202,7 +203,7 @@ fn wait_for_mutex<P: Program>(
         tid: t,
         call: Call::CondAwait { c, m, e },
     })?;
-    Ok(Next::Waits)
+    Ok(Next::Blocks)
 }
 
 // The mutex is taken back if it can be, and else the thread waits for it.
@@ -294,7 +295,7 @@ fn leave_await<P: Program>(
 
 // A wait that goes on is told.
 fn tell_wait(t: Tid, c: i64, m: i64, e: i64, marks: &mut Marks) -> Result<Next, OutOfMemory>
-    ensures next { IfOk result (λ n. n ≡ Waits) }
+    ensures next { IfOk result (λ n. n ≡ next.Blocks) }
     ensures ok { OnOk result (marks.new ≡ marks.old ++ Waited t (CondAwait c m e) ∷ []) }
     ensures err { OnErr result (marks.new ≡ marks.old) }
 {
@@ -302,7 +303,7 @@ fn tell_wait(t: Tid, c: i64, m: i64, e: i64, marks: &mut Marks) -> Result<Next, 
         tid: t,
         call: Call::CondAwait { c, m, e },
     })?;
-    Ok(Next::Waits)
+    Ok(Next::Blocks)
 }
 
 /// Goes on with a wait at a condition, which blocks the thread that runs. It is over if the thread may be canceled, if its seat was

@@ -6,7 +6,7 @@ ghost use Rattle.pth_base.specs.Descriptors.{contains};
 ghost use Rattle.pth_kernel.specs.Kernel.{kernel_of, fd_named, is_readable, is_writeable, is_exceptional};
 ghost use Rattle.pth_cond.specs.Conditions.{is_marked};
 ghost use Rattle.pth_model.specs.EventSeats.{event_seat};
-ghost use Rattle.pth_model.specs.Looks.{comes, found_by, found_unasked, holds, looks_at};
+ghost use Rattle.pth_model.specs.Looks.{comes, found_by, found_unasked, check_holds, looks_at};
 ghost use Rattle.pth_model.specs.State.{Control, State, now_of};
 ghost use Rattle.pth_numbered.specs.Numbered.{number_at};
 ghost use Rattle.pth_numbered.specs.Operands.{number};
@@ -144,7 +144,7 @@ pub(crate) fn is_pending(status: Status) -> bool
 // What a look finds of an event of a function. Its check is asked only if its next look is due.
 fn asked<P: Program>(w: &World<P>, next: Micros, check: i64, arg: i64) -> Option<bool>
     ensures { (s : State P P.State P.Shared) → StandsFor w.now s
-        → result ≡ (if nat_le next (now_of s.control) then Some (holds P.functions s check arg) else None) }
+        → result ≡ (if nat_le next (now_of s.control) then Some (check_holds P.functions s check arg) else None) }
 {
     if next <= w.time() {
         Some(w.check(check, arg))

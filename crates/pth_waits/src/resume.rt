@@ -56,7 +56,7 @@ fn try_again<P: Program>(w: &mut World<P>, t: Tid, marks: &mut Marks) -> Result<
     let settled = ring_has_settled(w, t);
     match attempt_again(w, t)? {
         Some(verdict) => carry_on(w, t, unless_settled(verdict, settled), marks),
-        None => Ok(Next::Waits),
+        None => Ok(Next::Blocks),
     }
 }
 
@@ -72,7 +72,7 @@ fn cancel_blocked<P: Program>(
     ensures frame { IfOk result (λ n. Frame w.old w.new no_numbers (runs_after t.0 n) (yields_after n)) }
 {
     let Some(blocked) = w.blocked(t) else {
-        return Ok(Next::Waits);
+        return Ok(Next::Blocks);
     };
     let call = blocked.call.copy()?;
     cancel_within(w, t, call, marks)?;
@@ -104,7 +104,7 @@ pub fn resume<P: Program>(w: &mut World<P>, t: Tid, marks: &mut Marks) -> Result
     ensures keeps { OnOk result (Whole w.old → Whole w.new) }
 {
     let Some(blocked) = w.blocked(t) else {
-        return Ok(Next::Waits);
+        return Ok(Next::Blocks);
     };
     let awaits = blocked.awaits;
     match blocked.call {

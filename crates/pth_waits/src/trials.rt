@@ -4,7 +4,6 @@ ghost use Rattle.std.specs.Prelude.{◌≡◌, ◌<◌, ◌≤◌, ◌^◌, IfOk
 ghost use Rattle.pth_kernel.specs.Kernel.{kernel_of};
 ghost use Rattle.pth_model.specs.Io.{answered_or_waits, trial_for, write_trial};
 ghost use Rattle.pth_numbered.specs.Clauses.{count_or};
-ghost use Rattle.pth_model.specs.declared.verdict.Verdict.TheVariants.{Says};
 ghost use Rattle.pth_io.specs.Answered.{answered};
 ghost use Rattle.pth_model.specs.Coming.{descriptors_bring};
 ghost use Rattle.pth_world.specs.WellFormed.{MayAwait};

@@ -54,7 +54,7 @@ pub fn carry_out<P: Program>(
         }
         Verdict::Blocks(awaits) => {
             block(w, t, call, awaits, marks)?;
-            Ok(Next::Waits)
+            Ok(Next::Blocks)
         }
         Verdict::Ends(value) => {
             end_thread(w, t, value, marks)?;
@@ -107,7 +107,7 @@ pub(crate) fn carry_on<P: Program>(
         }
         Verdict::Blocks(awaits) => {
             block_on(w, t, awaits, marks)?;
-            Ok(Next::Waits)
+            Ok(Next::Blocks)
         }
         Verdict::Ends(value) => {
             end_thread(w, t, value, marks)?;

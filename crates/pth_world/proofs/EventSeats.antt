@@ -15,7 +15,7 @@ use Rattle.pth_ring.specs.declared.event.Event.{Event}
 use Rattle.pth_base.specs.declared.event.EventSpec.{EventSpec}
 use Rattle.pth_cond.specs.declared.seats.Seat.{Seat}
 use Rattle.pth_cond.specs.declared.seats.Taken.{Taken}
-use Rattle.pth_cond.specs.Seats.{is_at, notice_at, with_seat, without_seat, handed_on}
+use Rattle.pth_cond.specs.Seats.{is_at, mark_at, with_seat, without_seat, handed_on}
 use Rattle.pth_cond.specs.Conditions.{Condition, ConditionTable, NoEventIsSeated, cond_enter_answer, conditions_of, has_seat, has_seat_here, live_answer, no_conditions, seat_entered, seat_handed_on, seat_left, with_seats}
 use Rattle.pth_numbered.specs.Operands.{number}
 use Rattle.pth_model.specs.EventSeats.{SeatChange, condition_of, condition_in, event_seat, seat_changed, seats_changed}
@@ -92,7 +92,7 @@ neither : (a b : Bool) → (a || b) ≡ false → (a ≡ false) × (b ≡ false)
 neither true b h = absurd (cc h)
 neither false b h = (refl, h)
 
-not_there : (s : Seat) (ts : List Taken) → list_any (is_at s) ts ≡ false → (without_seat s ts ≡ ts) × (notice_at s ts ≡ None)
+not_there : (s : Seat) (ts : List Taken) → list_any (is_at s) ts ≡ false → (without_seat s ts ≡ ts) × (mark_at s ts ≡ None)
 not_there s [] none = (refl, refl)
 not_there s (t ∷ ts) none =
     let h = neither (is_at s t) (list_any (is_at s) ts) none in

@@ -25,7 +25,7 @@ pub record Frame {P S H : Type 0} (w v : WorldOf P S H) (n : Numbers) (running :
 abbrev pub yields_after : Next → Bool
 yields_after (next.Done a) = false
 yields_after (next.Yields a) = true
-yields_after next.Waits = false
+yields_after next.Blocks = false
 yields_after (next.Ended v) = false
 yields_after next.Killed = false
 
@@ -33,6 +33,6 @@ yields_after next.Killed = false
 abbrev pub runs_after : ℕ → Next → Option ℕ
 runs_after t (next.Done a) = Some t
 runs_after t (next.Yields a) = Some t
-runs_after t next.Waits = Some t
+runs_after t next.Blocks = Some t
 runs_after t (next.Ended v) = None
 runs_after t next.Killed = Some t

@@ -2,7 +2,7 @@
 
 ghost use Rattle.std.specs.Prelude.{◌≡◌, ◌≢◌, ◌≤◌, true, Ok, IsNone};
 ghost use Rattle.pth_model.specs.Changes.{shares, uses};
-ghost use Rattle.pth_model.specs.Looks.{holds};
+ghost use Rattle.pth_model.specs.Looks.{check_holds};
 ghost use Rattle.pth_model.specs.State.{Control, State};
 ghost use Rattle.pth_numbered.specs.Operands.{number};
 ghost use Rattle.pth_world.specs.Once.{once_answer};
@@ -33,7 +33,7 @@ impl<P: Program> World<P> {
     /// Whether a check holds over the shared value (the function of a `PTH_EVENT_FUNC`). A number that no check can have stands for the
     /// last one, 4,294,967,295, as it does for handlers.
     pub fn check(&self, c: i64, arg: i64) -> bool
-        ensures { (s : State P P.State P.Shared) → Shows self.now s.control → result ≡ holds P.functions s c arg }
+        ensures { (s : State P P.State P.Shared) → Shows self.now s.control → result ≡ check_holds P.functions s c arg }
     {
         let check = CheckId(u32::try_from(c).unwrap_or(u32::MAX));
         self.program.check(check, arg, &self.shared)

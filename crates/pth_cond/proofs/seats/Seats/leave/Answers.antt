@@ -29,7 +29,7 @@ invariant_of-self-else-is_mark c =
 pub returns-then-is_mark-clause-mark : goal.returns-then-is_mark-clause-mark
 returns-then-is_mark-clause-mark c =
     let at = place_is c.args.seat c.deref.ensures.value c.place_of_seat.ensures c.in-Some.is in
-    rw (← c.self.view_is) (ap (λ (t : Taken). Some t.notice) c.remove-gone.ensures.value ∙ sym (left_at c.args.seat c.self.inside.taken.items c.in-Some.place c.remove-gone.result at).mark)
+    rw (← c.self.view_is) (ap (λ (t : Taken). Some t.mark) c.remove-gone.ensures.value ∙ sym (left_at c.args.seat c.self.inside.taken.items c.in-Some.place c.remove-gone.result at).mark)
 
 pub returns-then-is_mark-clause-changes : goal.returns-then-is_mark-clause-changes
 returns-then-is_mark-clause-changes c =
@@ -39,7 +39,7 @@ returns-then-is_mark-clause-changes c =
 pub returns-else-is_mark-clause-mark : goal.returns-else-is_mark-clause-mark
 returns-else-is_mark-clause-mark c =
     let at = place_is c.args.seat c.deref.ensures.value c.place_of_seat.ensures c.in-Some.is in
-    rw (← c.self.view_is) (ap (λ (t : Taken). Some t.notice) c.remove-gone.ensures.value ∙ sym (left_at c.args.seat c.self.inside.taken.items c.in-Some.place c.remove-gone.result at).mark)
+    rw (← c.self.view_is) (ap (λ (t : Taken). Some t.mark) c.remove-gone.ensures.value ∙ sym (left_at c.args.seat c.self.inside.taken.items c.in-Some.place c.remove-gone.result at).mark)
 
 pub returns-else-is_mark-clause-changes : goal.returns-else-is_mark-clause-changes
 returns-else-is_mark-clause-changes c =
