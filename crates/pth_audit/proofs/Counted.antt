@@ -13,7 +13,7 @@ use Rattle.pth_base.specs.declared.mark.Mark.{Mark}
 use Rattle.pth_base.specs.declared.mark.Mark.TheVariants as mark
 use Rattle.pth_numbered.specs.Operands.{number}
 use Rattle.pth_port.specs.Mail.{Mail, Message, is_live, messages_of, no_mail, sent, with_port, put_to, got, replied, sent_back, closed_port}
-use Rattle.pth_laws.specs.Exclusive.{Share, gives, gives_up, takes, share_after, levels}
+use Rattle.pth_laws.specs.Exclusive.{Share, gives, gives_up, takes_level, share_after, levels}
 use Rattle.pth_laws.specs.InOrder.{port_index, reply_index, mail_after, mail}
 use Rattle.pth_audit.specs.Holds.{FollowsHolds, IsCountable, has_levels}
 use Rattle.pth_audit.specs.Mailboxes.{FollowsMail}
@@ -102,7 +102,7 @@ levels_along : (t : ℕ) (i : ℤ) (x : Share) (marks : List Mark) → (fold (sh
 levels_along t i x [] = omega arith
 levels_along t i x (m ∷ ms) =
     along x.had (share_after t i x m).had (fold (share_after t i) (share_after t i x m) ms).had (length ms)
-    (level_more (gives_up t i m) (takes t i x.awaiting m) (gives t i x.awaiting m) x.had) (levels_along t i (share_after t i x m) ms)
+    (level_more (gives_up t i m) (takes_level t i x.awaiting m) (gives t i x.awaiting m) x.had) (levels_along t i (share_after t i x m) ms)
 
 -- a level more is counted if the count is not the last value of a `u64`
 pub counts : (n m : ℕ) → n ≡ m → Decides (ltb n 18446744073709551615) (m + 1 < 2 ^ 64)

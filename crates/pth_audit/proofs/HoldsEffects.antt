@@ -6,7 +6,7 @@ use Rattle.pth_base.specs.declared.call.Call.TheVariants as call
 use Rattle.pth_base.specs.declared.mark.Mark.{Mark}
 use Rattle.pth_base.specs.declared.mark.Mark.TheVariants as mark
 use Rattle.pth_base.proofs.Tables.{same_means}
-use Rattle.pth_laws.specs.Exclusive.{awaits_after, takes, gives, gives_up, enters, leaves}
+use Rattle.pth_laws.specs.Exclusive.{awaits_after, takes_level, gives, gives_up, enters, leaves}
 use Rattle.pth_laws.specs.Marks.{is_same, is_end_of}
 use Rattle.pth_audit.specs.declared.holds.Effect.{Effect}
 use Rattle.pth_audit.specs.declared.holds.Effect.TheVariants as effect
@@ -51,7 +51,7 @@ give_by false d t i = refl
 -- ---- what a mark does to each thread and object
 
 module _ (f : ℕ → Bool) where
-  pub takes_is : (m : Mark) (t : ℕ) (i : ℤ) → takes t i (f t) m ≡ takes_by (effect_of f m) t i
+  pub takes_is : (m : Mark) (t : ℕ) (i : ℤ) → takes_level t i (f t) m ≡ takes_by (effect_of f m) t i
   takes_is (mark.Answered u (call.MutexAcquire m v e) (Int (pos (suc zero)))) t i = refl
   takes_is (mark.Answered u (call.CondAwait c m e) a) t i = of_u f u.0 t (is_same i m) ∙ take_by (f u.0) (effect.Takes u.0 m) t i
   takes_is (mark.Answered u (call.MutexRelease m) a) t i = sym (off_if (λ d. takes_by d t i) (is_one a) (effect.Gives u.0 m) refl refl)

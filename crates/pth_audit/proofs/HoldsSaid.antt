@@ -6,7 +6,7 @@ use Rattle.std.proofs.lemmas.List.Sums.{fold-append}
 use Rattle.std.proofs.lemmas.Bool.{true≢false, and_parts}
 use Rattle.pth_base.specs.declared.mark.Mark.{Mark}
 use Rattle.pth_base.proofs.Tables.{same_self, same_means}
-use Rattle.pth_laws.specs.Exclusive.{is_of, awaits, awaits_after, takes, gives, gives_up, enters, leaves, levels, writes, reads, held_after, Share, share_after, IsExclusiveAt}
+use Rattle.pth_laws.specs.Exclusive.{is_of, awaits, awaits_after, takes_level, gives, gives_up, enters, leaves, levels, writes, reads, held_after, Share, share_after, IsExclusiveAt}
 use Rattle.pth_laws.specs.Marks.{is_same, is_end_of}
 use Rattle.pth_laws.proofs.Numbers.{same_number}
 use Rattle.pth_audit.specs.declared.holds.Effect.{Effect}
@@ -100,8 +100,8 @@ module _ (h : Holds) where
     abbrev done : Effect
     done = effect_of (has_awaited h) m
 
-    taken : (t : ℕ) (i : ℤ) → takes t i (awaits t marks) m ≡ takes_by done t i
-    taken t i = ap (λ (b : Bool). takes t i b m) (sym (f.awaits t)) ∙ takes_is (has_awaited h) m t i
+    taken : (t : ℕ) (i : ℤ) → takes_level t i (awaits t marks) m ≡ takes_by done t i
+    taken t i = ap (λ (b : Bool). takes_level t i b m) (sym (f.awaits t)) ∙ takes_is (has_awaited h) m t i
 
     given : (t : ℕ) (i : ℤ) → gives t i (awaits t marks) m ≡ gives_by done t i
     given t i = ap (λ (b : Bool). gives t i b m) (sym (f.awaits t)) ∙ gives_is (has_awaited h) m t i
@@ -163,17 +163,17 @@ module _ (h : Holds) where
     abbrev step : (a b c : Bool) (n : ℕ) → ℕ
     step a b c n = if a then 0 else (if b then n + 1 else (if c then n - 1 else n))
 
-    levels_more : (t : ℕ) (i : ℤ) → levels t i (marks ++ m ∷ []) ≡ step (gives_up t i m) (takes t i (awaits t marks) m) (gives t i (awaits t marks) m) (levels t i marks)
+    levels_more : (t : ℕ) (i : ℤ) → levels t i (marks ++ m ∷ []) ≡ step (gives_up t i m) (takes_level t i (awaits t marks) m) (gives t i (awaits t marks) m) (levels t i marks)
     levels_more t i =
         ap (λ (x : Share). x.had) (fold-append (share_after t i) nothing marks (m ∷ []))
-        ∙ ap (λ (b : Bool). step (gives_up t i m) (takes t i b m) (gives t i b m) (levels t i marks)) (awaiting_from t i nothing marks)
+        ∙ ap (λ (b : Bool). step (gives_up t i m) (takes_level t i b m) (gives t i b m) (levels t i marks)) (awaiting_from t i nothing marks)
 
-    step_same : (t : ℕ) (i : ℤ) → levels_by done t i (has_levels h t i) ≡ step (gives_up t i m) (takes t i (awaits t marks) m) (gives t i (awaits t marks) m) (levels t i marks)
+    step_same : (t : ℕ) (i : ℤ) → levels_by done t i (has_levels h t i) ≡ step (gives_up t i m) (takes_level t i (awaits t marks) m) (gives t i (awaits t marks) m) (levels t i marks)
     step_same t i =
         ap (λ (n : ℕ). levels_by done t i n) (f.levels t i)
         ∙ ap (λ (a : Bool). step a (takes_by done t i) (gives_by done t i) (levels t i marks)) (sym (given_up t i))
         ∙ ap (λ (b : Bool). step (gives_up t i m) b (gives_by done t i) (levels t i marks)) (sym (taken t i))
-        ∙ ap (λ (c : Bool). step (gives_up t i m) (takes t i (awaits t marks) m) c (levels t i marks)) (sym (given t i))
+        ∙ ap (λ (c : Bool). step (gives_up t i m) (takes_level t i (awaits t marks) m) c (levels t i marks)) (sym (given t i))
 
     held_same : (t : ℕ) (l : ℤ) (write held_now : Bool) → held_by done t l write held_now ≡ held_after t l write held_now m
     held_same t l write held_now =

@@ -7,7 +7,7 @@ use Rattle.pth_base.specs.declared.errno.Errno.{Errno}
 use Rattle.pth_base.specs.declared.errno.Errno.TheVariants.{EBUSY, EINVAL}
 use Rattle.pth_lock.specs.Objects.{object_limit, object_named, is_object}
 use Rattle.pth_cond.specs.declared.barriers.Arrival.{Arrival}
-use Rattle.pth_cond.specs.declared.barriers.Arrival.TheVariants.{Waits, Tail}
+use Rattle.pth_cond.specs.declared.barriers.Arrival.TheVariants.{Incomplete, Tail}
 
 -- an arrival that was neither answered nor taken back: who waits for which round, and whether an earlier arrival of its round
 -- was answered
@@ -104,7 +104,7 @@ barrier_init_answer x b n =
 
 -- a thread arrives at a barrier: it is the last of its round, or waits for it
 abbrev pub arrival_at : Barrier → Arrival
-arrival_at b = if lacks_one b then Tail else Waits b.round
+arrival_at b = if lacks_one b then Tail else Incomplete b.round
 
 abbrev pub arrival_answer : BarrierTable → ℤ → Result Arrival Errno
 arrival_answer x b = ok_or (option_map arrival_at (x (object_named b))) EINVAL

@@ -25,7 +25,7 @@ pub const TAILLIGHT: i64 = -2;
 #[derive(Clone, Copy)]
 pub enum Arrival {
     /// It waits until the round of this number has passed.
-    Waits(u64),
+    Incomplete(u64),
     /// It was the last of its round, which has passed.
     Tail,
 }

@@ -453,7 +453,7 @@ module _ {P S H : Type 0} (f : P → Functions S H) (t : ℕ) where
   reach_allowed : (s : State P S H) (b : ℤ) (o : Result Arrival Errno) (u : State P S H) → IsFree t u → IsAllowed t (call.BarrierReach b) (by_result (arrived_as b) o) u
   reach_allowed s b (Err e) u free = tt
   reach_allowed s b (Ok arrival.Tail) u free = tt
-  reach_allowed s b (Ok (arrival.Waits round)) u free = (free, record { ring = λ e h. absurd (none-some e h); rightly = tt; names = refl })
+  reach_allowed s b (Ok (arrival.Incomplete round)) u free = (free, record { ring = λ e h. absurd (none-some e h); rightly = tt; names = refl })
 
   pub allowed : (s : State P S H) (c : Call) → IsFree t s → s.resources.awaits t ≡ false → is_made s.control.threads.made t ≡ true → IsAllowed t c (row_of f s t c).begin.verdict (effect_of (row_of f s t c).begin s).state
   unfolding row_of

@@ -222,7 +222,7 @@ pub record Kept {P S H : Type 0} (all : Bool) (f : P → Functions S H) (R : Sta
   pub looked : KeepsLooks all f R
   -- barriers: none has an arrival more, and none is lost; or t's call makes one, and waits for its round
   pub barred : (x : BarrierTable) (s : State P S H) → HasFewer x s.control.barriers → HasAll x s.control.barriers → R s → R (controlled (with_barriers (λ y. x)) s)
-  pub reached : (t : ℕ) (b : ℤ) (round : ℕ) (s : State P S H) → IsFree t s → lives (s.control.threads.known t) ≡ true → is_some (s.control.threads.progress t) ≡ true → arrival_answer s.control.barriers b ≡ Ok (arrival.Waits round) → R s → R (controlled (λ k. blocks t (call.BarrierReach b) (awaits.Round b round) (with_barriers (barrier_reached b t) k)) s)
+  pub reached : (t : ℕ) (b : ℤ) (round : ℕ) (s : State P S H) → IsFree t s → lives (s.control.threads.known t) ≡ true → is_some (s.control.threads.progress t) ≡ true → arrival_answer s.control.barriers b ≡ Ok (arrival.Incomplete round) → R s → R (controlled (λ k. blocks t (call.BarrierReach b) (awaits.Round b round) (with_barriers (barrier_reached b t) k)) s)
   -- how far threads are, and what blocks them
   pub goes : (t : ℕ) (g : Progress S → Progress S) (s : State P S H) → ((p : Progress S) → (g p).blocked ≡ p.blocked) → R s → R (controlled (goes_on t g) s)
   pub blocked : (t : ℕ) (c : Call) (a : Awaits) (s : State P S H) → IsFree t s → IsThere t s → is_placing c ≡ false → (is_special true a ≡ false) × (is_notice a ≡ false) → MayWait t c a s → R s → R (controlled (λ k. blocks t c a (claims t (ring_given c) k)) s)
@@ -762,7 +762,7 @@ module _ {P S H : Type 0} (f : P → Functions S H) (R : State P S H → Type 0)
     unfolding claims
     reach_keeps b (Err e) s same free sound there r = kept.handlers.told (mark.Answered (tid t) (call.BarrierReach b) (answer.Fail e)) s tt r
     reach_keeps b (Ok arrival.Tail) s same free sound there r = kept.handlers.told (mark.Answered (tid t) (call.BarrierReach b) (answer.Int taillight)) (controlled (with_barriers (barrier_reached b t)) s) tt (kept.barred (barrier_reached b t s.control.barriers) s (fewer_tail b t s.control.barriers same) (all_reached b t s.control.barriers) r)
-    reach_keeps b (Ok (arrival.Waits round)) s same free sound there r =
+    reach_keeps b (Ok (arrival.Incomplete round)) s same free sound there r =
         kept.handlers.told (mark.Waits (tid t) (call.BarrierReach b)) (controlled (λ k. blocks t (call.BarrierReach b) (awaits.Round b round) (with_barriers (barrier_reached b t) k)) s) tt (kept.reached t b round s free sound.alive there same r)
 
     -- a wait at a condition begins

@@ -9,7 +9,7 @@ use Rattle.pth_base.specs.declared.call.Call.TheVariants as call
 use Rattle.pth_base.specs.declared.thread.ThreadState.TheVariants as state
 use Rattle.pth_base.proofs.Tables.{put_by, put_here, put_other}
 use Rattle.pth_lock.specs.Objects.{object_named}
-use Rattle.pth_cond.specs.declared.barriers.Arrival.TheVariants.{Waits}
+use Rattle.pth_cond.specs.declared.barriers.Arrival.TheVariants.{Incomplete}
 use Rattle.pth_cond.specs.Conditions.{seat_entered}
 use Rattle.pth_model.specs.Conditions.{seat_of}
 use Rattle.pth_cond.specs.Barriers.{BarrierTable, arrival_answer, barrier_reached}
@@ -176,7 +176,7 @@ module _ {P S H : Type 0} where
       arrivals_goes t (blocking (Some (record { call = c; awaits = a }))) x (λ b round h. absurd (arrived_blocked x b round t (claimed_free t (ring_given c) s free) all h)) all
 
   -- t arrives, and waits
-  arrivals_reached : (t : ℕ) (b : ℤ) (round : ℕ) (s : State P S H) → IsFree t s → lives (s.control.threads.known t) ≡ true → is_some (s.control.threads.progress t) ≡ true → arrival_answer s.control.barriers b ≡ Ok (Waits round) → AreArrivals s → AreArrivals (controlled (λ k. blocks t (call.BarrierReach b) (Round b round) (with_barriers (barrier_reached b t) k)) s)
+  arrivals_reached : (t : ℕ) (b : ℤ) (round : ℕ) (s : State P S H) → IsFree t s → lives (s.control.threads.known t) ≡ true → is_some (s.control.threads.progress t) ≡ true → arrival_answer s.control.barriers b ≡ Ok (Incomplete round) → AreArrivals s → AreArrivals (controlled (λ k. blocks t (call.BarrierReach b) (Round b round) (with_barriers (barrier_reached b t) k)) s)
   unfolding goes_on
   arrivals_reached t b round s free alive there waits r n i u h = by_arrival (arrives b t round s.control.barriers waits n i u h)
     where

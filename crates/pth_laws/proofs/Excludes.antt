@@ -11,12 +11,12 @@ use Rattle.pth_base.specs.declared.mark.Mark.{Mark}
 use Rattle.pth_base.specs.declared.mark.Mark.TheVariants as mark
 use Rattle.pth_base.proofs.Tables.{same_means}
 use Rattle.pth_laws.specs.Marks.{is_same, thread_of}
-use Rattle.pth_laws.specs.Exclusive.{is_of, awaits_after, awaits, takes, gives, gives_up, Share, share_after, levels, enters, leaves, held_after, reads, writes, is_holder, IsExclusiveAt, Exclusive, IsExclusiveAfter}
+use Rattle.pth_laws.specs.Exclusive.{is_of, awaits_after, awaits, takes_level, gives, gives_up, Share, share_after, levels, enters, leaves, held_after, reads, writes, is_holder, IsExclusiveAt, Exclusive, IsExclusiveAfter}
 use Rattle.pth_laws.specs.Initialised.{initialises_mutex, initialises_lock, IsObject, IsInitialisedAt, Initialised, HaveObjects}
 
 -- ---- one thread alone takes, or enters, at a mark
 
-taker_of : (t : ℕ) (i : ℤ) (x : Bool) (m : Mark) → takes t i x m ≡ true → thread_of m ≡ Some t
+taker_of : (t : ℕ) (i : ℤ) (x : Bool) (m : Mark) → takes_level t i x m ≡ true → thread_of m ≡ Some t
 taker_of t i x (mark.Answered u (call.MutexAcquire m v e) (Int (pos (suc zero)))) h = ap Some (same_means u.0 t (and_parts (is_same i m) (u.0 == t) h).1)
 taker_of t i x (mark.Answered u (call.CondAwait c m e) a) h = ap Some (same_means u.0 t (and_parts (is_same i m) (u.0 == t) (and_parts x (is_of t i u.0 m) h).1).1)
 taker_of t i x (mark.Took u m) h = ap Some (same_means u.0 t (and_parts (is_same i (pos m)) (u.0 == t) h).1)
@@ -48,14 +48,14 @@ module _ (before : List Mark) (m : Mark) where
   more = before ++ m ∷ []
 
   -- levels after the mark
-  levels_more : (t : ℕ) (i : ℤ) → levels t i more ≡ (if gives_up t i m then 0 else (if takes t i (awaits t before) m then levels t i before + 1 else (if gives t i (awaits t before) m then levels t i before - 1 else levels t i before)))
+  levels_more : (t : ℕ) (i : ℤ) → levels t i more ≡ (if gives_up t i m then 0 else (if takes_level t i (awaits t before) m then levels t i before + 1 else (if gives t i (awaits t before) m then levels t i before - 1 else levels t i before)))
   levels_more t i =
       ap (λ (x : Share). x.had) (fold-append (share_after t i) (record { had = 0; awaiting = false }) before (m ∷ []))
-      ∙ ap (λ (x : Bool). if gives_up t i m then 0 else (if takes t i x m then levels t i before + 1 else (if gives t i x m then levels t i before - 1 else levels t i before))) (awaiting_from t i (record { had = 0; awaiting = false }) before)
+      ∙ ap (λ (x : Bool). if gives_up t i m then 0 else (if takes_level t i x m then levels t i before + 1 else (if gives t i x m then levels t i before - 1 else levels t i before))) (awaiting_from t i (record { had = 0; awaiting = false }) before)
 
   -- who takes none has no more afterwards
-  no_more : (t : ℕ) (i : ℤ) → takes t i (awaits t before) m ≡ false → levels t i more ≤ levels t i before
-  no_more t i none = subst (λ (n : ℕ). n ≤ levels t i before) (sym (levels_more t i)) (by_tests (gives_up t i m) (takes t i (awaits t before) m) (gives t i (awaits t before) m) (levels t i before) none)
+  no_more : (t : ℕ) (i : ℤ) → takes_level t i (awaits t before) m ≡ false → levels t i more ≤ levels t i before
+  no_more t i none = subst (λ (n : ℕ). n ≤ levels t i before) (sym (levels_more t i)) (by_tests (gives_up t i m) (takes_level t i (awaits t before) m) (gives t i (awaits t before) m) (levels t i before) none)
     where
       by_tests : (a b c : Bool) (n : ℕ) → b ≡ false → (if a then 0 else (if b then n + 1 else (if c then n - 1 else n))) ≤ n
       by_tests true b c n none = omega arith
@@ -86,16 +86,16 @@ module _ (before : List Mark) (m : Mark) where
 
   module _ (said : IsExclusiveAt before m) (x : IsExclusiveAfter before) where
     -- who took no level has none, if another one has one
-    others_none : (t u : ℕ) (i : ℤ) → 0 < levels t i more → u ≢ t → takes u i (awaits u before) m ≡ false → levels u i before ≡ 0
-    others_none t u i some apart none = by_bool (takes t i (awaits t before) m)
+    others_none : (t u : ℕ) (i : ℤ) → 0 < levels t i more → u ≢ t → takes_level u i (awaits u before) m ≡ false → levels u i before ≡ 0
+    others_none t u i some apart none = by_bool (takes_level t i (awaits t before) m)
         (λ taking. said.taker_is_alone t u i taking apart)
         (λ off. let less = no_more t i off in x.one_owner t u i (omega (arith, less, some)) apart)
 
     one_owner : (t u : ℕ) (i : ℤ) → 0 < levels t i more → u ≢ t → levels u i more ≡ 0
-    one_owner t u i some apart = by_bool (takes u i (awaits u before) m)
+    one_owner t u i some apart = by_bool (takes_level u i (awaits u before) m)
         (λ taking.
         let alone = said.taker_is_alone u t i taking (λ same. apart (sym same)) in
-        by_bool (takes t i (awaits t before) m)
+        by_bool (takes_level t i (awaits t before) m)
         (λ also. absurd (apart (one_thread t u (thread_of m) (taker_of t i (awaits t before) m also) (taker_of u i (awaits u before) m taking))))
         (λ off. let less = no_more t i off in absurd (omega (arith, less, some, alone))))
         (λ off. let less = no_more u i off in let none = others_none t u i some apart off in omega (arith, less, none))
@@ -134,7 +134,7 @@ in_range_more : (before : List Mark) (m : Mark) → IsInitialisedAt before m →
 in_range_more before m said x = record {
   mutexes = λ i some. by_last (list_any (initialises_mutex i) before) (initialises_mutex i m) (sym (any_last (initialises_mutex i) before m) ∙ some) (x.mutexes i) (λ new. (said.mutex_is_new i new).0);
   locks = λ l some. by_last (list_any (initialises_lock l) before) (initialises_lock l m) (sym (any_last (initialises_lock l) before m) ∙ some) (x.locks l) (λ new. (said.lock_is_new l new).0);
-  had = λ t i some. still (initialises_mutex i) (by_bool (takes t i (awaits t before) m) (λ taking. said.taken_was_initialised t i taking) (λ off. let less = no_more before m t i off in x.had t i (omega (arith, less, some))));
+  had = λ t i some. still (initialises_mutex i) (by_bool (takes_level t i (awaits t before) m) (λ taking. said.taken_was_initialised t i taking) (λ off. let less = no_more before m t i off in x.had t i (omega (arith, less, some))));
   held = λ t l write some. still (initialises_lock l) (by_bool (enters t l write m) (λ entering. said.entered_was_initialised t l write entering) (λ off. x.held t l write (held_before before m t l write off some)));
 }
   where

@@ -17,7 +17,7 @@ use Rattle.pth_lock.specs.Mutexes.{levels_of}
 use Rattle.pth_lock.specs.RwLocks.{is_one}
 use Rattle.pth_model.specs.Resources.{Resources, told}
 use Rattle.pth_laws.specs.Marks.{is_same, at_number, thread_of, is_end_of}
-use Rattle.pth_laws.specs.Exclusive.{is_of, awaits_after, awaits, takes, gives, gives_up, Share, share_after, share, levels, enters, leaves, held_after, reads, writes, is_holder, IsExclusiveAt, Exclusive}
+use Rattle.pth_laws.specs.Exclusive.{is_of, awaits_after, awaits, takes_level, gives, gives_up, Share, share_after, share, levels, enters, leaves, held_after, reads, writes, is_holder, IsExclusiveAt, Exclusive}
 use Rattle.pth_laws.specs.Initialised.{initialises_mutex, initialises_lock, IsInitialisedAt, Initialised}
 use Rattle.pth_laws.proofs.Book.{Book, empty_book, book_of, after, is_kill}
 use Rattle.pth_laws.proofs.Counted.{counted_none}
@@ -61,7 +61,7 @@ module _ (b : Book) (locked : Locked b.resources) where
   begins_lock l (mark.Answered u (call.RwInit o) (Int (pos (suc zero)))) h law = record { object = object_named o; is = same_number l o h ∙ named_object o law.1.known; holds = law.1 }
   begins_lock l m h law = absurd (true≢false (sym h))
 
-  taker : (t : ℕ) (i : ℤ) (m : Mark) → takes t i (k.awaits t) m ≡ true → IsExclusiveMark b m → IsAt (MayTake k) t i
+  taker : (t : ℕ) (i : ℤ) (m : Mark) → takes_level t i (k.awaits t) m ≡ true → IsExclusiveMark b m → IsAt (MayTake k) t i
   taker t i (mark.Answered u (call.MutexAcquire m v e) (Int (pos (suc zero)))) h law = at_mark (MayTake k) t i u.0 (object_named m) m (is_mutex m law.1.initialised) h law.1
   taker t i (mark.Answered u (call.CondAwait c m e) a) h law =
       let h2 = and_parts (k.awaits t) (is_of t i u.0 m) h in
@@ -144,8 +144,8 @@ any_last : (test : Mark → Bool) (before : List Mark) (m : Mark) → list_any t
 any_last test before m = list_any-append test before (m ∷ []) ∙ ap (λ b. list_any test before || b) (or-false (test m))
 
 -- nobody takes, or enters, what is below 0
-low_levels : (t i : ℕ) (awaiting : Bool) (m : Mark) → takes t (negsuc i) awaiting m ≡ false → (share_after t (negsuc i) (share_of 0 awaiting) m).had ≡ 0
-low_levels t i awaiting m none = by_test (gives_up t (negsuc i) m) (takes t (negsuc i) awaiting m) (gives t (negsuc i) awaiting m) none
+low_levels : (t i : ℕ) (awaiting : Bool) (m : Mark) → takes_level t (negsuc i) awaiting m ≡ false → (share_after t (negsuc i) (share_of 0 awaiting) m).had ≡ 0
+low_levels t i awaiting m none = by_test (gives_up t (negsuc i) m) (takes_level t (negsuc i) awaiting m) (gives t (negsuc i) awaiting m) none
   where
     by_test : (a b c : Bool) → b ≡ false → (if a then 0 else (if b then 0 + 1 else (if c then 0 - 1 else 0))) ≡ 0
     by_test true b c none = refl
@@ -178,8 +178,8 @@ fits_after b before m on law f =
       locked = locked_after b m law f.locked;
     }
   where
-    none_takes : (t i : ℕ) → takes t (negsuc i) (b.resources.awaits t) m ≡ false
-    none_takes t i = false_from_ne_true (takes t (negsuc i) (b.resources.awaits t) m) (λ h. negative (MayTake b.resources) t i (taker b f.locked t (negsuc i) m h law))
+    none_takes : (t i : ℕ) → takes_level t (negsuc i) (b.resources.awaits t) m ≡ false
+    none_takes t i = false_from_ne_true (takes_level t (negsuc i) (b.resources.awaits t) m) (λ h. negative (MayTake b.resources) t i (taker b f.locked t (negsuc i) m h law))
 
     none_enters : (t l : ℕ) (write : Bool) → enters t (negsuc l) write m ≡ false
     none_enters t l write = false_from_ne_true (enters t (negsuc l) write m) (λ h. negative (λ v o. MayEnter b.resources v o write) t l (enterer b f.locked t (negsuc l) write m h law))
@@ -229,8 +229,8 @@ module _ (b : Book) (before : List Mark) (f : Fits b.resources before) where
   no_hold t none (negsuc l) = ap₂ (λ (y z : Bool). y || z) (f.low_writers t l) (f.low_readers t l)
 
   module _ (m : Mark) (law : IsExclusiveMark b m) where
-    take : (t : ℕ) (i : ℤ) → takes t i (awaits t before) m ≡ true → IsAt (MayTake r) t i
-    take t i h = taker b f.locked t i m (ap (λ x. takes t i x m) (sym (f.awaiting t)) ∙ h) law
+    take : (t : ℕ) (i : ℤ) → takes_level t i (awaits t before) m ≡ true → IsAt (MayTake r) t i
+    take t i h = taker b f.locked t i m (ap (λ x. takes_level t i x m) (sym (f.awaiting t)) ∙ h) law
 
     give : (t : ℕ) (i : ℤ) → gives t i (awaits t before) m ≡ true → IsAt (HasMutex r) t i
     give t i h = giver b f.locked t i m (ap (λ x. gives t i x m) (sym (f.awaiting t)) ∙ h) law

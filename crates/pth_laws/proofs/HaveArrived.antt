@@ -7,7 +7,7 @@ use Rattle.pth_base.specs.declared.call.Call.{Call}
 use Rattle.pth_base.specs.declared.call.Call.TheVariants as call
 use Rattle.pth_base.proofs.Tables.{same_means, same_fails, put_by}
 use Rattle.pth_lock.specs.Objects.{object_named}
-use Rattle.pth_cond.specs.declared.barriers.Arrival.TheVariants.{Waits}
+use Rattle.pth_cond.specs.declared.barriers.Arrival.TheVariants.{Incomplete}
 use Rattle.pth_cond.specs.Conditions.{seat_entered}
 use Rattle.pth_model.specs.Conditions.{seat_of}
 use Rattle.pth_cond.specs.Barriers.{Barrier, BarrierTable, arrival_answer, barrier_reached, all_withdrawn}
@@ -189,7 +189,7 @@ module _ {P S H : Type 0} where
       (own_still t (blocking (Some d)) x (own_blocked x.control.barriers t d (x.control.threads.progress t) (other_arrives x.control.barriers t c a other none)) all.0, once_goes t (blocking (Some d)) x all.1)
 
   -- t arrives, and waits
-  kept_reached : (t : ℕ) (b : ℤ) (round : ℕ) (s : State P S H) → ((n i : ℕ) → has_arrived s.control.barriers n i t ≡ true → ⊥) → arrival_answer s.control.barriers b ≡ Ok (Waits round) → IsKept s → IsKept (controlled (λ k. blocks t (call.BarrierReach b) (Round b round) (with_barriers (barrier_reached b t) k)) s)
+  kept_reached : (t : ℕ) (b : ℤ) (round : ℕ) (s : State P S H) → ((n i : ℕ) → has_arrived s.control.barriers n i t ≡ true → ⊥) → arrival_answer s.control.barriers b ≡ Ok (Incomplete round) → IsKept s → IsKept (controlled (λ k. blocks t (call.BarrierReach b) (Round b round) (with_barriers (barrier_reached b t) k)) s)
   kept_reached t b round s none waits r =
       let x = barrier_reached b t s.control.barriers in
       let d : Blocked = record { call = call.BarrierReach b; awaits = Round b round } in (

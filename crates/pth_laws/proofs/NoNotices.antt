@@ -96,7 +96,7 @@ trial_none k a none = none
 reach_none : (b : ℤ) (o : Result Arrival Errno) → is_noticing (by_result (arrived_as b) o) ≡ false
 reach_none b (Err e) = refl
 reach_none b (Ok arrival.Tail) = refl
-reach_none b (Ok (arrival.Waits round)) = refl
+reach_none b (Ok (arrival.Incomplete round)) = refl
 
 module _ {P S H : Type 0} where
   abbrev tries_as : State P S H → (t : ℕ) → ℤ → ℕ → Bool → Attempt P S H

@@ -15,7 +15,7 @@ use Rattle.pth_store.specs.Cleanups.{PushedHandler}
 use Rattle.pth_model.specs.Resources.{handler}
 use Rattle.pth_laws.specs.Marks.{is_same, is_end_of, is_cancellation_of, before_block, block_at_end}
 use Rattle.pth_laws.specs.Orderly.{Orderly, IsOrderlyAt, pending_handlers, handlers_in, AreHandlersFirst, value_of, key_at, first_stage, Owes, NoneOwes, IsLeast, IsNext, IsNoneNext, IsSequence}
-use Rattle.pth_laws.specs.Exclusive.{Exclusive, is_of, awaits, takes, gives, gives_up, levels, enters, leaves, reads, writes, IsExclusiveAt}
+use Rattle.pth_laws.specs.Exclusive.{Exclusive, is_of, awaits, takes_level, gives, gives_up, levels, enters, leaves, reads, writes, IsExclusiveAt}
 use Rattle.pth_laws.specs.Initialised.{Initialised, initialises_mutex, IsInitialisedAt}
 use Rattle.pth_laws.specs.Examples
 use Rattle.pth_laws.specs.Examples.{one, two, handler_of_number, done_by, takes_mutex, enters_it, awaits_it, with_value}
@@ -277,7 +277,7 @@ seven_gives_nothing h = one_is_zero ((h (begun ∷ takes_mutex one (pos 0) ∷ m
 
 -- a mark that takes, gives and enters as is said, and does nothing else
 record DoesOnly (before : List Mark) (m : Mark) : Type 0 where
-  alone : (t u : ℕ) (i : ℤ) → takes t i (awaits t before) m ≡ true → u ≢ t → levels u i before ≡ 0
+  alone : (t u : ℕ) (i : ℤ) → takes_level t i (awaits t before) m ≡ true → u ≢ t → levels u i before ≡ 0
   has : (t : ℕ) (i : ℤ) → gives t i (awaits t before) m ≡ true → 0 < levels t i before
   no_writer : (t u : ℕ) (l : ℤ) (write : Bool) → enters t l write m ≡ true → writes u l before ≡ false
   no_reader : (t u : ℕ) (l : ℤ) → enters t l true m ≡ true → reads u l before ≡ false
@@ -297,9 +297,9 @@ exclusive_by before m d = record {
   end_holds_no_lock = λ t l h. absurd (true≢false (sym h ∙ d.ends_nobody t));
 }
 
-nothing_done : (before : List Mark) (m : Mark) → ((t : ℕ) (i : ℤ) (x : Bool) → takes t i x m ≡ false) → ((t : ℕ) (i : ℤ) (x : Bool) → gives t i x m ≡ false) → ((t : ℕ) (l : ℤ) (write : Bool) → enters t l write m ≡ false) → ((t : ℕ) (i : ℤ) → gives_up t i m ≡ false) → ((t : ℕ) (l : ℤ) → leaves t l m ≡ false) → ((t : ℕ) → is_end_of t m ≡ false) → IsExclusiveAt before m
-nothing_done before m takes gives enters up leaves ends = exclusive_by before m (record {
-  alone = λ t u i h. absurd (true≢false (sym h ∙ takes t i (awaits t before)));
+nothing_done : (before : List Mark) (m : Mark) → ((t : ℕ) (i : ℤ) (x : Bool) → takes_level t i x m ≡ false) → ((t : ℕ) (i : ℤ) (x : Bool) → gives t i x m ≡ false) → ((t : ℕ) (l : ℤ) (write : Bool) → enters t l write m ≡ false) → ((t : ℕ) (i : ℤ) → gives_up t i m ≡ false) → ((t : ℕ) (l : ℤ) → leaves t l m ≡ false) → ((t : ℕ) → is_end_of t m ≡ false) → IsExclusiveAt before m
+nothing_done before m takes_level gives enters up leaves ends = exclusive_by before m (record {
+  alone = λ t u i h. absurd (true≢false (sym h ∙ takes_level t i (awaits t before)));
   has = λ t i h. absurd (true≢false (sym h ∙ gives t i (awaits t before)));
   no_writer = λ t u l write h. absurd (true≢false (sym h ∙ enters t l write));
   no_reader = λ t u l h. absurd (true≢false (sym h ∙ enters t l true));

@@ -10,7 +10,7 @@ use Rattle.pth_base.specs.declared.errno.Errno.{Errno}
 use Rattle.pth_base.specs.declared.errno.Errno.TheVariants.{EINVAL}
 use Rattle.pth_lock.specs.Objects.{object_named}
 use Rattle.pth_cond.specs.declared.barriers.Arrival.{Arrival}
-use Rattle.pth_cond.specs.declared.barriers.Arrival.TheVariants.{Waits, Tail}
+use Rattle.pth_cond.specs.declared.barriers.Arrival.TheVariants.{Incomplete, Tail}
 use Rattle.pth_cond.specs.Barriers.{Arrived, Barrier, BarrierTable, lacks_one, waits_among, waits_here, waits_at, arrival_at, arrival_answer, with_barrier, barrier_initialised, arrived, barrier_reached, without_thread, withdrawn, made_late, late_behind, answered, round_answered, all_withdrawn}
 use Rattle.pth_laws.specs.Arrivals.{arrivals_of}
 use Rattle.pth_laws.specs.Clean.{is_of, has_arrived_here, has_arrived}
@@ -194,7 +194,7 @@ comes_to b x y a same answer = same_arrival (arrival_at y) a (arrival_answer x b
 tail_same : (t : ℕ) (y : Barrier) → arrival_at y ≡ Tail → (arrived t y).arrivals ≡ y.arrivals
 tail_same t y last = by_lack (lacks_one y) last
   where
-    by_lack : (lack : Bool) → (if lack then Tail else Waits y.round) ≡ Tail → (if lack then record y { round = y.round + 1 } else record y { arrivals = y.arrivals ++ (record { tid = t; round = y.round; late = false } ∷ []) }).arrivals ≡ y.arrivals
+    by_lack : (lack : Bool) → (if lack then Tail else Incomplete y.round) ≡ Tail → (if lack then record y { round = y.round + 1 } else record y { arrivals = y.arrivals ++ (record { tid = t; round = y.round; late = false } ∷ []) }).arrivals ≡ y.arrivals
     by_lack true same = refl
     by_lack false same = absurd (cc same)
 
@@ -213,10 +213,10 @@ all_reached b t x n r u = each_with (λ o p. has_arrived_here r u p ≡ true →
     by_lack y h false = list_any-append (is_of r u) y.arrivals (record { tid = t; round = y.round; late = false } ∷ []) ∙ ap (λ (b : Bool). b || ((y.round == r) && (t == u) || false)) h
 
 -- who waits for a round has arrived for it
-pub has_reached : (b : ℤ) (t round : ℕ) (x : BarrierTable) → arrival_answer x b ≡ Ok (Waits round) → has_arrived (barrier_reached b t x) (object_named b) round t ≡ true
+pub has_reached : (b : ℤ) (t round : ℕ) (x : BarrierTable) → arrival_answer x b ≡ Ok (Incomplete round) → has_arrived (barrier_reached b t x) (object_named b) round t ≡ true
 has_reached b t round x waits = ap (has_arrived_here round t) (put_here x (object_named b) (option_map (arrived t) (x (object_named b)))) ∙ by_barrier (x (object_named b)) waits
   where
-    by_lack : (y : Barrier) (lack : Bool) → (if lack then Tail else Waits y.round) ≡ Waits round → has_arrived_here round t (Some (if lack then record y { round = y.round + 1 } else record y { arrivals = y.arrivals ++ (record { tid = t; round = y.round; late = false } ∷ []) })) ≡ true
+    by_lack : (y : Barrier) (lack : Bool) → (if lack then Tail else Incomplete y.round) ≡ Incomplete round → has_arrived_here round t (Some (if lack then record y { round = y.round + 1 } else record y { arrivals = y.arrivals ++ (record { tid = t; round = y.round; late = false } ∷ []) })) ≡ true
     by_lack y true same = absurd (cc same)
     by_lack y false same =
         let number : y.round ≡ round = cc in
@@ -225,9 +225,9 @@ has_reached b t round x waits = ap (has_arrived_here round t) (put_here x (objec
         ∙ ap (λ (b : Bool). list_any (is_of round t) y.arrivals || (b || false)) (same_self t)
         ∙ or_true (list_any (is_of round t) y.arrivals)
 
-    by_barrier : (o : Option Barrier) → ok_or (option_map arrival_at o) EINVAL ≡ Ok (Waits round) → has_arrived_here round t (option_map (arrived t) o) ≡ true
+    by_barrier : (o : Option Barrier) → ok_or (option_map arrival_at o) EINVAL ≡ Ok (Incomplete round) → has_arrived_here round t (option_map (arrived t) o) ≡ true
     by_barrier None same = absurd (cc same)
-    by_barrier (Some y) same = by_lack y (lacks_one y) (same_arrival (arrival_at y) (Waits round) (Ok (arrival_at y)) refl same)
+    by_barrier (Some y) same = by_lack y (lacks_one y) (same_arrival (arrival_at y) (Incomplete round) (Ok (arrival_at y)) refl same)
 
 -- who had arrived nowhere arrives once
 pub once_reached : (b : ℤ) (t : ℕ) (x : BarrierTable) → ((n r : ℕ) → has_arrived x n r t ≡ true → ⊥) → ((n u : ℕ) → arrivals_of u (x n) ≤ 1) → (n u : ℕ) → arrivals_of u (barrier_reached b t x n) ≤ 1
@@ -250,7 +250,7 @@ once_reached b t x none once n u = each_with (λ o p. ((r : ℕ) → has_arrived
             omega (arith, once, after)
 
 -- who waits for a round has arrived for it, and of the others nobody has that had not
-pub arrives : (b : ℤ) (t round : ℕ) (x : BarrierTable) → arrival_answer x b ≡ Ok (Waits round) → (n r u : ℕ) → has_arrived (barrier_reached b t x) n r u ≡ true → ((n ≡ object_named b) × (r ≡ round) × (u ≡ t)) ⊎ (has_arrived x n r u ≡ true)
+pub arrives : (b : ℤ) (t round : ℕ) (x : BarrierTable) → arrival_answer x b ≡ Ok (Incomplete round) → (n r u : ℕ) → has_arrived (barrier_reached b t x) n r u ≡ true → ((n ≡ object_named b) × (r ≡ round) × (u ≡ t)) ⊎ (has_arrived x n r u ≡ true)
 arrives b t round x waits n r u =
     put_by (λ o. has_arrived_here r u o ≡ true → ((n ≡ object_named b) × (r ≡ round) × (u ≡ t)) ⊎ (has_arrived x n r u ≡ true)) x (object_named b) (option_map (arrived t) (x (object_named b))) n
     (λ here h. at here (by_barrier (x (object_named b)) refl h))
@@ -266,7 +266,7 @@ arrives b t round x waits n r u =
     by_own y true false false is_same is_own is_old number h = absurd (true≢false (sym h))
     by_own y false own false is_same is_own is_old number h = absurd (true≢false (sym h))
 
-    by_lack : (y : Barrier) (lack : Bool) → (if lack then Tail else Waits y.round) ≡ Waits round → has_arrived_here r u (Some (if lack then record y { round = y.round + 1 } else record y { arrivals = y.arrivals ++ (record { tid = t; round = y.round; late = false } ∷ []) })) ≡ true → ((r ≡ round) × (u ≡ t)) ⊎ (has_arrived_here r u (Some y) ≡ true)
+    by_lack : (y : Barrier) (lack : Bool) → (if lack then Tail else Incomplete y.round) ≡ Incomplete round → has_arrived_here r u (Some (if lack then record y { round = y.round + 1 } else record y { arrivals = y.arrivals ++ (record { tid = t; round = y.round; late = false } ∷ []) })) ≡ true → ((r ≡ round) × (u ≡ t)) ⊎ (has_arrived_here r u (Some y) ≡ true)
     by_lack y true same h = absurd (cc same)
     by_lack y false same h =
         let number : y.round ≡ round = cc in
@@ -274,7 +274,7 @@ arrives b t round x waits n r u =
 
     by_barrier : (o : Option Barrier) → x (object_named b) ≡ o → has_arrived_here r u (option_map (arrived t) o) ≡ true → ((r ≡ round) × (u ≡ t)) ⊎ (has_arrived_here r u (x (object_named b)) ≡ true)
     by_barrier None same h = absurd (true≢false (sym h))
-    by_barrier (Some y) same h = back y same (by_lack y (lacks_one y) (comes_to b x y (Waits round) same waits) h)
+    by_barrier (Some y) same h = back y same (by_lack y (lacks_one y) (comes_to b x y (Incomplete round) same waits) h)
       where
         back : (y : Barrier) → x (object_named b) ≡ Some y → ((r ≡ round) × (u ≡ t)) ⊎ (has_arrived_here r u (Some y) ≡ true) → ((r ≡ round) × (u ≡ t)) ⊎ (has_arrived_here r u (x (object_named b)) ≡ true)
         back y same (inl own) = inl own

@@ -35,11 +35,11 @@ awaits t marks = fold (awaits_after t) false marks
 -- ---- levels of a mutex
 
 -- t takes a level of mutex i: a mutex_acquire is answered 1, t takes its mutex back, or a cond_await of t is answered while it awaits
-abbrev pub takes : (t : ℕ) (i : ℤ) → Bool → Mark → Bool
-takes t i awaiting (mark.Answered u (call.MutexAcquire m v e) (Int (pos (suc zero)))) = is_of t i u.0 m
-takes t i awaiting (mark.Answered u (call.CondAwait c m e) a) = awaiting && is_of t i u.0 m
-takes t i awaiting (mark.Took u m) = is_of t i u.0 (pos m)
-takes t i awaiting m = false
+abbrev pub takes_level : (t : ℕ) (i : ℤ) → Bool → Mark → Bool
+takes_level t i awaiting (mark.Answered u (call.MutexAcquire m v e) (Int (pos (suc zero)))) = is_of t i u.0 m
+takes_level t i awaiting (mark.Answered u (call.CondAwait c m e) a) = awaiting && is_of t i u.0 m
+takes_level t i awaiting (mark.Took u m) = is_of t i u.0 (pos m)
+takes_level t i awaiting m = false
 
 -- t gives a level of mutex i back: a mutex_release is answered 1, also as an act of a handler, or a cond_await begins to await
 abbrev pub gives : (t : ℕ) (i : ℤ) → Bool → Mark → Bool
@@ -61,7 +61,7 @@ pub record Share : Type 0 where
 abbrev pub levels_after : (t : ℕ) (i : ℤ) → Share → Mark → ℕ
 levels_after t i x m =
     if gives_up t i m then 0 else (
-    if takes t i x.awaiting m then x.had + 1 else (
+    if takes_level t i x.awaiting m then x.had + 1 else (
     if gives t i x.awaiting m then x.had - 1 else
     x.had))
 
@@ -107,7 +107,7 @@ is_holder t l marks = writes t l marks || reads t l marks
 -- what is said of a mark m, by the marks before it
 pub record IsExclusiveAt (before : List Mark) (m : Mark) : Type 0 where
   -- who takes a level of a mutex meets no other thread that has one
-  pub taker_is_alone : (t u : ℕ) (i : ℤ) → takes t i (awaits t before) m ≡ true → u ≢ t → levels u i before ≡ 0
+  pub taker_is_alone : (t u : ℕ) (i : ℤ) → takes_level t i (awaits t before) m ≡ true → u ≢ t → levels u i before ≡ 0
   -- who gives a level of a mutex back has one, and so does who gives the mutex up at its end
   pub giver_has_level : (t : ℕ) (i : ℤ) → gives t i (awaits t before) m ≡ true → 0 < levels t i before
   pub given_up_was_had : (t : ℕ) (i : ℤ) → gives_up t i m ≡ true → 0 < levels t i before

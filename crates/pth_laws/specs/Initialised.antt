@@ -8,7 +8,7 @@ use Rattle.pth_base.specs.declared.mark.Mark.{Mark}
 use Rattle.pth_base.specs.declared.mark.Mark.TheVariants as mark
 use Rattle.pth_lock.specs.Objects.{object_limit}
 use Rattle.pth_laws.specs.Marks.{is_same}
-use Rattle.pth_laws.specs.Exclusive.{awaits, takes, levels, enters, is_holder}
+use Rattle.pth_laws.specs.Exclusive.{awaits, takes_level, levels, enters, is_holder}
 
 -- mutex i, or lock l, is initialised: its call is answered 1
 abbrev pub initialises_mutex : ℤ → Mark → Bool
@@ -29,7 +29,7 @@ pub record IsInitialisedAt (before : List Mark) (m : Mark) : Type 0 where
   pub mutex_is_new : (i : ℤ) → initialises_mutex i m ≡ true → IsObject i × (list_any (initialises_mutex i) before ≡ false)
   pub lock_is_new : (l : ℤ) → initialises_lock l m ≡ true → IsObject l × (list_any (initialises_lock l) before ≡ false)
   -- a mutex of which a thread takes a level was initialised
-  pub taken_was_initialised : (t : ℕ) (i : ℤ) → takes t i (awaits t before) m ≡ true → list_any (initialises_mutex i) before ≡ true
+  pub taken_was_initialised : (t : ℕ) (i : ℤ) → takes_level t i (awaits t before) m ≡ true → list_any (initialises_mutex i) before ≡ true
   -- a lock that a thread enters was initialised, and the thread does not hold it
   pub entered_was_initialised : (t : ℕ) (l : ℤ) (write : Bool) → enters t l write m ≡ true → list_any (initialises_lock l) before ≡ true
   pub enters_once : (t : ℕ) (l : ℤ) (write : Bool) → enters t l write m ≡ true → is_holder t l before ≡ false

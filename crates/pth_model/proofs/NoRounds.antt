@@ -271,7 +271,7 @@ module _ (rounds : Bool) where
 arrival_none : (b : ℤ) (o : Result Arrival Errno) → is_rounding false (by_result (arrived_as b) o) ≡ false
 arrival_none b (Err e) = refl
 arrival_none b (Ok arrival.Tail) = refl
-arrival_none b (Ok (arrival.Waits round)) = refl
+arrival_none b (Ok (arrival.Incomplete round)) = refl
 
 retaken_none : (v : Verdict) (a : Awaits) → is_rounding false v ≡ false → v ≡ Blocks a → is_retaking a ≡ false
 retaken_none v a none blocks = sym (special_retaking a) ∙ sym (ap (is_rounding false) blocks) ∙ none

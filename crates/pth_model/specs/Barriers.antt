@@ -4,7 +4,7 @@ use Rattle.pth_base.specs.declared.answer.Answer.TheVariants.{Int}
 use Rattle.pth_base.specs.declared.mark.Mark.TheVariants.{Withdrew}
 use Rattle.pth_lock.specs.Objects.{object_named}
 use Rattle.pth_cond.specs.declared.barriers.Arrival.{Arrival}
-use Rattle.pth_cond.specs.declared.barriers.Arrival.TheVariants.{Waits, Tail}
+use Rattle.pth_cond.specs.declared.barriers.Arrival.TheVariants.{Incomplete, Tail}
 use Rattle.pth_cond.specs.Barriers.{taillight, barrier_init_answer, arrival_answer, round_answer, has_passed, waits_at, barrier_initialised, barrier_reached, round_answered, withdrawn}
 use Rattle.pth_model.specs.declared.awaits.Awaits.{Awaits}
 use Rattle.pth_model.specs.declared.awaits.Awaits.TheVariants.{Round}
@@ -19,7 +19,7 @@ use Rattle.pth_model.specs.Row.{Row, Attempt, ◌changing◌, ◌trying◌}
 
 -- what an arrival at a barrier comes to
 abbrev pub arrived_as : ℤ → Arrival → Verdict
-arrived_as b (Waits round) = Blocks (Round b round)
+arrived_as b (Incomplete round) = Blocks (Round b round)
 arrived_as b Tail = Says (Int taillight)
 
 module _ {P S H : Type 0} (s : State P S H) where

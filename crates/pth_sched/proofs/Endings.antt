@@ -54,7 +54,7 @@ use Rattle.pth_model.specs.RingWaits.{extra_ring, ring_given, has_settled, is_no
 use Rattle.pth_cond.specs.Barriers.{arrival_answer, barrier_init_answer, has_passed, round_answer, round_answered, taillight}
 use Rattle.pth_cond.specs.Conditions.{cond_init_answer, cond_notify_answer, is_initialised}
 use Rattle.pth_cond.specs.declared.barriers.Arrival.{Arrival}
-use Rattle.pth_cond.specs.declared.barriers.Arrival.TheVariants.{Waits, Tail}
+use Rattle.pth_cond.specs.declared.barriers.Arrival.TheVariants.{Incomplete, Tail}
 use Rattle.pth_model.specs.Barriers.{arrived_as, tries_round}
 use Rattle.pth_lock.specs.Mutexes.{mutex_init_answer, mutex_release_answer, mutex_take_answer}
 use Rattle.pth_lock.specs.Objects.{object_named}
@@ -120,7 +120,7 @@ done_on r = result_on (λ (u : Unit {0}). Int (pos 1)) r
 
 -- nor does an arrival at a barrier, or its round
 arrived_on : (b : ℤ) (r : Result Arrival Errno) → EndsNot (by_result (arrived_as b) r)
-arrived_on b (Ok (Waits round)) = blocks_on (Round b round)
+arrived_on b (Ok (Incomplete round)) = blocks_on (Round b round)
 arrived_on b (Ok Tail) = says_on (Int taillight)
 arrived_on b (Err e) = says_on (Fail e)
 

@@ -18,7 +18,7 @@ use Rattle.pth_kernel.specs.Kernel.{Kernel, fd_named, room}
 use Rattle.std.specs.Option.{ok_or}
 use Rattle.pth_cond.specs.Barriers.{Barrier, BarrierTable, arrival_answer, arrival_at, arrived, barrier_reached, has_passed, is_past, lacks_one, round_answer, round_answered}
 use Rattle.pth_cond.specs.declared.barriers.Arrival.{Arrival}
-use Rattle.pth_cond.specs.declared.barriers.Arrival.TheVariants.{Waits, Tail}
+use Rattle.pth_cond.specs.declared.barriers.Arrival.TheVariants.{Incomplete, Tail}
 use Rattle.pth_lock.specs.Objects.{object_named}
 use Rattle.pth_model.specs.Barriers.{arrived_as}
 use Rattle.pth_numbered.specs.Operands.{number, is_zero}
@@ -95,15 +95,15 @@ interrupted_not (Blocks a) blocks = refl
 interrupted_not v blocks = blocks
 
 -- an arrival that waits at a barrier leaves its round current
-still_waiting : (t round : ℕ) (y : Barrier) (last : Bool) → lacks_one y ≡ last → ◌≡◌ {A = Result Arrival Errno} (Ok (if last then Tail else Waits y.round)) (Ok (Waits round)) → (arrived t y).round ≡ y.round
+still_waiting : (t round : ℕ) (y : Barrier) (last : Bool) → lacks_one y ≡ last → ◌≡◌ {A = Result Arrival Errno} (Ok (if last then Tail else Incomplete y.round)) (Ok (Incomplete round)) → (arrived t y).round ≡ y.round
 still_waiting t round y true is waits = absurd (cc waits)
 still_waiting t round y false is waits = rw is refl
 
-still_past : (t round n : ℕ) (o : Option Barrier) → ok_or (option_map arrival_at o) EINVAL ≡ Ok (Waits round) → is_past n o ≡ false → is_past n (option_map (arrived t) o) ≡ false
+still_past : (t round n : ℕ) (o : Option Barrier) → ok_or (option_map arrival_at o) EINVAL ≡ Ok (Incomplete round) → is_past n o ≡ false → is_past n (option_map (arrived t) o) ≡ false
 still_past t round n None waits before = refl
 still_past t round n (Some y) waits before = rw (still_waiting t round y (lacks_one y) refl waits) before
 
-waiting_rounds : (x : BarrierTable) (b : ℤ) (t round : ℕ) → arrival_answer x b ≡ Ok (Waits round) → KeepsRounds x (barrier_reached b t x)
+waiting_rounds : (x : BarrierTable) (b : ℤ) (t round : ℕ) → arrival_answer x b ≡ Ok (Incomplete round) → KeepsRounds x (barrier_reached b t x)
 waiting_rounds x b t round waits c n before =
     put_by (λ o. is_past n o ≡ false) x (object_named b) (option_map (arrived t) (x (object_named b))) (object_named c)
     (λ same. still_past t round n (x (object_named b)) waits (subst (λ i. is_past n (x i) ≡ false) same before))
@@ -221,7 +221,7 @@ module _ {P S H : Type 0} (t : ℕ) where
     -- an arrival that waits lets no round pass
     reaches_by : (b : ℤ) (q : Result Arrival Errno) → arrival_answer s.control.barriers b ≡ q → is_waiting (begun_as f t (call.BarrierReach b) (by_result (arrived_as b) q trying changes (with_barriers (barrier_reached b t))) s).next ≡ true
         → IsNonWaking t s (begun_as f t (call.BarrierReach b) (by_result (arrived_as b) q trying changes (with_barriers (barrier_reached b t))) s).told.state
-    reaches_by b (Ok (Waits round)) is waits =
+    reaches_by b (Ok (Incomplete round)) is waits =
         let r = controlled (with_barriers (barrier_reached b t)) s in
         non_waking_then t s r (waits_by t (call.BarrierReach b) (Round b round) r).state
         (record { known = refl; running = refl; kernel = refl; events = same_pending s.control.events; mutexes = refl; locks = refl; mail = refl; rounds = waiting_rounds s.control.barriers b t round is; seats = same_seats s.control.conditions; blocked = λ u apart. refl })

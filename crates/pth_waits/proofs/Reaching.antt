@@ -5,7 +5,7 @@ use Rattle.pth_base.specs.declared.call.Call.TheVariants.{BarrierReach}
 use Rattle.pth_base.specs.declared.errno.Errno.{Errno}
 use Rattle.pth_cond.specs.Barriers.{Barrier, BarrierTable, barriers_of, arrival_answer, barrier_reached, has_passed, round_answer, round_answered}
 use Rattle.pth_cond.specs.declared.barriers.Arrival.{Arrival}
-use Rattle.pth_cond.specs.declared.barriers.Arrival.TheVariants.{Waits, Tail}
+use Rattle.pth_cond.specs.declared.barriers.Arrival.TheVariants.{Incomplete, Tail}
 use Rattle.pth_model.specs.declared.awaits.Awaits.{Awaits}
 use Rattle.pth_model.specs.declared.awaits.Awaits.TheVariants.{Round}
 use Rattle.pth_model.specs.declared.verdict.Verdict.{Verdict}
@@ -33,12 +33,12 @@ quiet_reach t b a x = refl
 -- ---- a thread arrives
 
 arrival_plain : (b : ℤ) (q : Result Arrival Errno) → IsPlain (by_result (arrived_as b) q)
-arrival_plain b (Ok (Waits round)) = tt
+arrival_plain b (Ok (Incomplete round)) = tt
 arrival_plain b (Ok Tail) = tt
 arrival_plain b (Err e) = tt
 
 arrival_may : (t : ℕ) (b : ℤ) (q : Result Arrival Errno) → MayComeTo t (BarrierReach b) (by_result (arrived_as b) q)
-arrival_may t b (Ok (Waits round)) = refl
+arrival_may t b (Ok (Incomplete round)) = refl
 arrival_may t b (Ok Tail) = tt
 arrival_may t b (Err e) = tt
 
@@ -48,7 +48,7 @@ module _ {P S H : Type 0} (w : WorldOf P S H) (x : List (Option Barrier)) (t : �
 
   arrival_effect : (s : State P S H) (q : Result Arrival Errno) → StandsFor w s → OnOk q (barriers_of x ≡ barrier_reached b t (barriers_of w.barriers)) → OnErr q (x ≡ w.barriers)
       → Changed v (effect_of (by_result (arrived_as b) q trying changes (with_barriers (barrier_reached b t))) s)
-  arrival_effect s (Ok (Waits round)) st changed same = record { shows = barred_shows w x (barrier_reached b t) s.control st.control changed; store = st.store; silent = refl }
+  arrival_effect s (Ok (Incomplete round)) st changed same = record { shows = barred_shows w x (barrier_reached b t) s.control st.control changed; store = st.store; silent = refl }
   arrival_effect s (Ok Tail) st changed same = record { shows = barred_shows w x (barrier_reached b t) s.control st.control changed; store = st.store; silent = refl }
   arrival_effect s (Err e) st changed same = record { shows = barred_shows w x (λ y. y) s.control st.control (ap barriers_of same); store = st.store; silent = refl }
 

@@ -32,7 +32,7 @@ fn arrived_as(b: i64, arrival: Result<Arrival, Errno>) -> Verdict
     ensures { result ≡ by_result (arrived_as b) arrival }
 {
     match arrival {
-        Ok(Arrival::Waits(round)) => Verdict::Blocks(Awaits::Round { b, round }),
+        Ok(Arrival::Incomplete(round)) => Verdict::Blocks(Awaits::Round { b, round }),
         Ok(Arrival::Tail) => Verdict::Says(Answer::Int(TAILLIGHT)),
         Err(errno) => Verdict::Says(Answer::Fail(errno)),
     }

@@ -98,7 +98,7 @@ impl OneBarrier {
             round: self.round,
             late: false,
         });
-        Arrival::Waits(self.round)
+        Arrival::Incomplete(self.round)
     }
 
     // Takes the arrival of a thread back, and tells whether there was one.
