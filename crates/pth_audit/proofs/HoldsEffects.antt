@@ -11,7 +11,11 @@ use Rattle.pth_laws.specs.Marks.{is_same, is_end_of}
 use Rattle.pth_audit.specs.declared.holds.Effect.{Effect}
 use Rattle.pth_audit.specs.declared.holds.Effect.TheVariants as effect
 use Rattle.pth_audit.specs.Success.{is_one}
-use Rattle.pth_audit.specs.Holds.{effect_of, step_of, takes_by, gives_by, gives_up_by, enters_by, leaves_by, ends_by, awaits_by}
+use Rattle.pth_audit.specs.Holds.{effect_of, step_of, takes_by, gives_by, gives_up_by, enters_by, leaves_by, awaits_by}
+
+abbrev pub ends_by : Effect → ℕ → Bool
+ends_by (effect.Ends u) t = u == t
+ends_by d t = false
 
 -- ---- an effect that is none, by a test
 

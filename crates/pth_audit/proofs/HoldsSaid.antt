@@ -12,8 +12,8 @@ use Rattle.pth_laws.proofs.Numbers.{same_number}
 use Rattle.pth_audit.specs.declared.holds.Effect.{Effect}
 use Rattle.pth_audit.specs.declared.holds.Effect.TheVariants as effect
 use Rattle.pth_audit.specs.declared.holds.Holds.{Holds}
-use Rattle.pth_audit.specs.Holds.{effect_of, step_of, takes_by, gives_by, gives_up_by, enters_by, leaves_by, ends_by, levels_by, held_by, awaits_by, has_awaited, has_levels, has_written, has_read, levels_of, is_writer, reads_under, FollowsHolds, IsFair, IsDone}
-use Rattle.pth_audit.proofs.HoldsEffects.{takes_is, gives_is, gives_up_is, enters_is, leaves_is, ends_is, awaits_is}
+use Rattle.pth_audit.specs.Holds.{effect_of, step_of, takes_by, gives_by, gives_up_by, enters_by, leaves_by, levels_by, held_by, awaits_by, has_awaited, has_levels, has_written, has_read, levels_of, is_writer, reads_under, FollowsHolds, IsFair, IsDone}
+use Rattle.pth_audit.proofs.HoldsEffects.{ends_by, takes_is, gives_is, gives_up_is, enters_is, leaves_is, ends_is, awaits_is}
 
 same_int : (i : ℤ) → is_same i i ≡ true
 same_int (pos n) = same_self n

@@ -89,10 +89,6 @@ abbrev pub leaves_by : Effect → ℕ → ℤ → Bool
 leaves_by (effect.Leaves u l) t k = is_of t k u l
 leaves_by d t k = false
 
-abbrev pub ends_by : Effect → ℕ → Bool
-ends_by (effect.Ends u) t = u == t
-ends_by d t = false
-
 abbrev pub levels_by : Effect → ℕ → ℤ → ℕ → ℕ
 levels_by d t i n =
     if gives_up_by d t i then 0 else (

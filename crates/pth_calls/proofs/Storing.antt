@@ -35,8 +35,8 @@ use Rattle.pth_numbered.specs.Operands.{number, is_below, is_zero}
 use Rattle.pth_store.specs.Cleanups.{PushedHandler, push_answer, top_taken, with_top}
 use Rattle.pth_store.specs.Keys.{created, deleted, key_create_answer, key_delete_answer, key_named}
 use Rattle.pth_store.specs.Storing.{AnswersWithMemory}
-use Rattle.pth_world.proofs.Telling.{has_still}
-use Rattle.pth_world.specs.Leading.{IsQuiet, IsTold, Tells}
+use Rattle.pth_world.proofs.Telling.{has_still, Tells}
+use Rattle.pth_world.specs.Leading.{IsQuiet, IsTold}
 use Rattle.pth_world.specs.Shows.{Shows, StandsFor}
 use Rattle.pth_world.specs.Store.{store_of}
 use Rattle.pth_world.specs.World.{WorldOf}

@@ -1,5 +1,5 @@
 -- A transcript, drawn line by line.
-use Rattle.std.proofs.Common.{◌≡◌, ◌∙◌, ◌+◌, ◌<◌, ◌^◌, ℕ, List, [], ◌∷◌, ◌++◌, Option, ap, sym, subst, arith, append-nil, append_assoc, inl, inr, length, length-append}
+use Rattle.std.proofs.Common.{◌≡◌, ◌∙◌, ◌+◌, ◌<◌, ◌^◌, ℕ, List, [], ◌∷◌, ◌++◌, All, Option, ap, sym, subst, arith, append-nil, append_assoc, inl, inr, length, length-append}
 use Rattle.std.proofs.lemmas.Grind.{flat_map-append}
 use Rattle.std.proofs.lemmas.List.{map-append}
 use Rattle.std.proofs.lemmas.List.Elements.{All-nil, All-push}
@@ -18,8 +18,17 @@ use Rattle.pth_transcript.specs.declared.reader.Part.TheVariants as part
 use Rattle.pth_transcript.specs.declared.told.Told.{Told}
 use Rattle.pth_drawing.specs.Draw.{IsMade, StopsAt}
 use Rattle.pth_drawing.specs.Follow.{Draws}
-use Rattle.pth_drawing.specs.Taken.{HasDrawn, IsAlong}
+use Rattle.pth_drawing.specs.Taken.{HasDrawn}
 use Rattle.pth_drawing.specs.declared.drawing.Drawing.{Drawing}
+
+-- the marks of lines that were taken are drawn
+pub record IsAlong (d : Drawing) (from turns : ℕ) (old new : Ahead) (lines : ℕ) : Type 0 where
+  pub told : List Told
+  pub takes : Takes old new (told_lines told)
+  pub tells : All IsTold told
+  pub draws : Draws d from turns (marks_of told)
+  pub count : lines ≡ length told
+  pub few : lines < 2 ^ 64
 
 -- nothing was taken yet
 pub begins : (d : Drawing) (from turns : ℕ) (left : Option (List ℕ)) (unread : List ℕ) (lines : ℕ) → unread ≡ [] → lines ≡ 0

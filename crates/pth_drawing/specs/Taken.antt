@@ -9,15 +9,6 @@ use Rattle.pth_transcript.specs.declared.told.Told.{Told}
 use Rattle.pth_drawing.specs.Follow.{Draws}
 use Rattle.pth_drawing.specs.declared.drawing.Drawing.{Drawing}
 
--- the marks of lines that were taken are drawn
-pub record IsAlong (d : Drawing) (from turns : ℕ) (old new : Ahead) (lines : ℕ) : Type 0 where
-  pub told : List Told
-  pub takes : Takes old new (told_lines told)
-  pub tells : All IsTold told
-  pub draws : Draws d from turns (marks_of told)
-  pub count : lines ≡ length told
-  pub few : lines < 2 ^ 64
-
 -- and the line of an ending was taken behind them
 pub record HasDrawn (d : Drawing) (from turns : ℕ) (old new : Ahead) (lines : ℕ) : Type 0 where
   pub told : List Told

@@ -31,8 +31,8 @@ use Rattle.pth_base.specs.declared.refusal.Refusal.{Refusal}
 use Rattle.std.proofs.lemmas.Result.{IfOk-weaker}
 use Rattle.pth_model.specs.Awaits.{is_await}
 use Rattle.pth_model.specs.Resources.{Resources, Store, told, answer_told, act_told, with_keys, with_mutexes}
-use Rattle.pth_world.proofs.Telling.{quiet-refused, quiet_tells, tells_stands}
-use Rattle.pth_world.specs.Leading.{IsQuiet, IsTold, Leads, Tells}
+use Rattle.pth_world.proofs.Telling.{quiet-refused, quiet_tells, tells_stands, Tells}
+use Rattle.pth_world.specs.Leading.{IsQuiet, IsTold, Leads}
 use Rattle.pth_world.specs.Shows.{Shows, StandsFor}
 use Rattle.pth_world.specs.Store.{store_of}
 use Rattle.pth_world.specs.World.{WorldOf}

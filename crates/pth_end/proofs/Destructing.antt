@@ -11,7 +11,8 @@ use Rattle.pth_model.specs.Ending.{destructs, destructs_by, next_destructor, run
 use Rattle.pth_model.specs.Resources.{Store, told, with_keys}
 use Rattle.pth_model.specs.State.{State}
 use Rattle.pth_store.specs.Keys.{with_key_value}
-use Rattle.pth_world.specs.Leading.{Leads, Tells}
+use Rattle.pth_world.specs.Leading.{Leads}
+use Rattle.pth_world.proofs.Telling.{Tells}
 use Rattle.pth_world.specs.Shows.{StandsFor}
 use Rattle.pth_world.specs.Store.{store_of}
 use Rattle.pth_world.specs.World.{WorldOf}

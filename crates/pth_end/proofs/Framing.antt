@@ -15,9 +15,9 @@ use Rattle.pth_model.specs.declared.next.Next.TheVariants.{Done}
 use Rattle.pth_model.specs.State.{Control, State}
 use Rattle.pth_model.specs.Transition.{Last, Piece, silent, tells, ◌and_then◌, ◌and_next◌}
 use Rattle.pth_world.proofs.Frames.{frame_then}
-use Rattle.pth_world.proofs.Telling.{quiet-refused, quiet_tells, tells_leads}
+use Rattle.pth_world.proofs.Telling.{quiet-refused, quiet_tells, tells_leads, Tells}
 use Rattle.pth_world.specs.Frame.{Frame, runs_after, yields_after}
-use Rattle.pth_world.specs.Leading.{Goes, IsQuiet, Leads, Tells}
+use Rattle.pth_world.specs.Leading.{Goes, IsQuiet, Leads}
 use Rattle.pth_world.specs.Numbering.{no_numbers}
 use Rattle.pth_world.specs.Shows.{Shows, StandsFor}
 use Rattle.pth_world.specs.World.{WorldOf}

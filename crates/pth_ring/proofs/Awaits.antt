@@ -9,11 +9,11 @@ use Rattle.pth_base.proofs.Chains.{stands_or_not}
 use Rattle.pth_numbered.specs.Numbered.{thing_at, number_at, slot_of}
 use Rattle.pth_ring.specs.declared.event.Event.{Event}
 use Rattle.pth_ring.specs.Ring.{each}
-use Rattle.pth_ring.specs.Links.{next_place, event_at, ring, places_left}
+use Rattle.pth_ring.specs.Links.{next_place, event_at, ring}
+use Rattle.pth_ring.proofs.Going.{places_left, on-next, places_left-start, places_left-last, places_left-step, places_left-shorter}
 use Rattle.pth_ring.specs.Rings.{awaited, ring_awaited}
 use Rattle.pth_ring.specs.Arena.{RingsOf, events_of, AreLinked, SamePlaces, Becomes, Remakes}
 use Rattle.pth_ring.proofs.Turns.{each-in, each-out}
-use Rattle.pth_ring.proofs.Going.{on-next, places_left-start, places_left-last, places_left-step, places_left-shorter}
 use Rattle.pth_ring.proofs.Named.{each-named}
 use Rattle.pth_ring.proofs.Shown.{rings-named, events-seen, live, all-used, ring-at, becomes}
 

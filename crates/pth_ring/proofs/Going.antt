@@ -6,12 +6,16 @@ use Rattle.std.proofs.lemmas.List.Sums.{sum_by-cons}
 use Rattle.pth_base.specs.Chain.{StandsIn, Chain}
 use Rattle.pth_ring.specs.declared.node.Node.{Node}
 use Rattle.pth_ring.specs.Ring.{from, rest_of, turned_once}
-use Rattle.pth_ring.specs.Links.{next_place, prev_place, event_at, ring, IsLinkedRing, IsLinked, places_left}
+use Rattle.pth_ring.specs.Links.{next_place, prev_place, event_at, places_along, ring, IsLinkedRing, IsLinked}
 use Rattle.pth_ring.specs.Rings.{event_limit}
 use Rattle.pth_base.proofs.Tables.{same_self, not_same}
 use Rattle.pth_base.proofs.Chains.{StandsIn-append_right, distinct-few, chain-split, closed-next}
 use Rattle.pth_ring.proofs.Turns.{split}
 use Rattle.pth_ring.proofs.Circles.{places_along-is, ring-is}
+
+-- from a place of the ring of u on, up to u
+unfoldable pub places_left : (ℕ → Option Node) → ℕ → ℕ → List ℕ
+places_left x u at = places_along (next_place x) event_limit u at
 
 -- what is left of a ring from one of its members on
 pub record Along (x : ℕ → Option Node) (e at : ℕ) : Type 0 where

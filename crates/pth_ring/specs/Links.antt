@@ -65,10 +65,6 @@ if_some None xs = []
 unfoldable pub ring : (ℕ → Option Node) → ℕ → List ℕ
 ring x u = if_some (event_at x u) (places_along (next_place x) event_limit u u)
 
--- from a place of the ring of u on, up to u
-unfoldable pub places_left : (ℕ → Option Node) → ℕ → ℕ → List ℕ
-places_left x u at = places_along (next_place x) event_limit u at
-
 -- these places are linked in a circle
 pub record IsLinkedRing (x : ℕ → Option Node) (xs : List ℕ) : Type 0 where
   pub links : ClosedChain (next_place x) (prev_place x) xs

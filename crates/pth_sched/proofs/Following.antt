@@ -16,7 +16,8 @@ use Rattle.pth_base.specs.Cut.{IsCut}
 use Rattle.pth_world.specs.Sound.{IsSound}
 use Rattle.pth_world.specs.StateOf.{state_of}
 use Rattle.pth_world.proofs.StateOf.{stands_for_state, state_awaits_rightly}
-use Rattle.pth_sched.specs.MachineOf.{MachineOf, left, left_at, machine_stops}
+use Rattle.pth_sched.specs.MachineOf.{MachineOf, machine_stops}
+use Rattle.pth_sched.proofs.Left.{left, left_at}
 use Rattle.pth_sched.specs.Running.{Stands, StandsAt, Makes, MakesPart, FollowsUntil, BreaksOffBefore, GoesOn}
 use Rattle.pth_sched.proofs.Keeping.{stops_ended}
 use Rattle.pth_sched.proofs.Showing.{stops_is}

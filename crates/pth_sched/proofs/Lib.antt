@@ -10,6 +10,7 @@ pub mod Going
 pub mod Keeping
 pub mod Known
 pub mod Listing
+pub mod Left
 pub mod Living
 pub mod NonWakingCalls
 pub mod Moving

@@ -23,7 +23,7 @@ use Rattle.pth_model.specs.Transition.{controlled, changes, tells, â—Œand_thenâ—
 use Rattle.pth_model.proofs.Queues.{queue-enter}
 use Rattle.pth_model.proofs.Runs.{parts-more, none-more}
 use Rattle.pth_queue.proofs.Counts.{length-insert}
-use Rattle.pth_sched.specs.MachineOf.{left_at, left_while, part_left, time_left}
+use Rattle.pth_sched.proofs.Left.{left_at, left_while, part_left, time_left}
 use Rattle.pth_sched.proofs.Parts.{turn_steps}
 use Rattle.pth_sched.proofs.Times.{IsLater, moment_later, time_less, readied_kernel, ended_time, step_at}
 

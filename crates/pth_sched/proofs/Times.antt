@@ -22,7 +22,7 @@ use Rattle.pth_world.specs.Sound.{IsSound}
 use Rattle.pth_world.specs.StateOf.{state_of}
 use Rattle.pth_world.specs.World.{WorldOf}
 use Rattle.pth_world.proofs.StateOf.{stands_for_state}
-use Rattle.pth_sched.specs.MachineOf.{time_left}
+use Rattle.pth_sched.proofs.Left.{time_left}
 
 if_some : {A : Type 0} {Q : A → Type 0} (o : Option A) → ((a : A) → o ≡ Some a → Q a) → IfSome o Q
 if_some None q = tt

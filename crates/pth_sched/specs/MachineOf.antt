@@ -1,8 +1,7 @@
 -- What contracts see of a machine, and what holds of it between two parts of a run.
-use Rattle.std.specs.Prelude.{◌≡◌, ◌≤◌, ◌+◌, ◌*◌, ◌-◌, nat_le, ℕ, Bool, true, false, Option, Some, None, IsSome, IfSome, length}
+use Rattle.std.specs.Prelude.{◌≡◌, ◌≤◌, ◌+◌, nat_le, ℕ, Bool, true, false, Option, Some, None, IsSome, IfSome, length}
 use Rattle.pth_base.specs.declared.outcome.Outcome.{Outcome}
 use Rattle.pth_base.specs.declared.outcome.Outcome.TheVariants as outcome
-use Rattle.pth_base.specs.Limits.{last_moment}
 use Rattle.pth_model.specs.State.{Turn}
 use Rattle.pth_world.specs.World.{WorldOf}
 use Rattle.pth_world.specs.Numbering.{HasGiven}
@@ -40,27 +39,6 @@ pub record HasUpperBound {P S H : Type 0} (m : MachineOf P S H) : Type 0 where
   pub low : greatest_return ≤ bound
   pub under : IsUnder bound m.world.threads.queues.ready
   pub few : bound + length m.world.threads.queues.new + open_by m.turn.gave m.world.scheduler.running ≤ greatest_return + m.turn.steps + m.turn.turns
-
--- how far a run to a number of steps is from its end: each part but the last comes nearer
-
-abbrev pub part_left : Option ℕ → Option ℕ → ℕ
-part_left (Some t) r = 2
-part_left None None = 1
-part_left None (Some r) = 0
-
--- how far time is from the last moment: each move of idle time comes nearer
-unfoldable pub time_left : ℕ → ℕ
-time_left now = last_moment - now
-
-abbrev pub left_while : (to steps part now : ℕ) → Outcome → ℕ
-left_while to steps part now outcome.Running = 3 * (to - steps) + part + 1 + time_left now
-left_while to steps part now o = 0
-
-abbrev pub left_at : ℕ → Turn → (running : Option ℕ) → (now : ℕ) → ℕ
-left_at to x running now = left_while to x.steps (part_left x.gave running) now x.outcome
-
-abbrev pub left : {P S H : Type 0} → ℕ → MachineOf P S H → ℕ
-left to m = left_at to m.turn m.world.scheduler.running m.world.kernel.now
 
 -- whether a run to this number of steps goes no further: a next step would begin, or an outcome ended it
 abbrev pub machine_stops_by : ℕ → ℕ → Option ℕ → Option ℕ → Outcome → Bool

@@ -9,10 +9,10 @@ use Rattle.pth_model.specs.Standing.{Standing, order, left_by}
 use Rattle.pth_model.specs.Allowance.{Point, has_entry, points, standing_of, takes_another, names_another, waited, number_before, grace, new_at_top, beyond, allowed}
 use Rattle.pth_tables.specs.declared.waits.Wait.{Wait}
 use Rattle.pth_tables.specs.Waits.{WaitsOf, words, one_more, seen_at_top, number_of, waited_by, is_due, reached_all, met, dispatched, is_counting, takes_ready, late_by, allowed_by, allowed_taken}
-use Rattle.pth_tables.specs.Counts.{AreSameWord, Lasts, IsCounted, Counts, AreSlotsOf, HaveOwnSlots}
+use Rattle.pth_tables.specs.Counts.{AreSameWord, Lasts, IsCounted, Counts}
+use Rattle.pth_tables.proofs.TrailsBefore.{AreSlotsOf, HaveOwnSlots, slot-at}
 use Rattle.pth_tables.proofs.TrailsCounted.{has-contained, has-above, found-is, All-from_contained}
 use Rattle.pth_tables.proofs.TrailsBeyond.{points-push, waited-push, last-push, new-none, beyond-at, beyond-past}
-use Rattle.pth_tables.proofs.TrailsBefore.{slot-at}
 use Rattle.pth_tables.proofs.TrailsAllowed.{allowed-fits, allowed-near, allowed-is}
 use Rattle.pth_tables.proofs.CountsWords.{named-same, seen-same, number-same, more-both, fits-late, by-le, by-lt}
 use Rattle.pth_tables.proofs.CountsReached.{OnlyNumbers, only_numbers, not-reached, is-reached}

@@ -9,8 +9,17 @@ use Rattle.pth_model.specs.Standing.{Standing, order}
 use Rattle.pth_model.specs.Allowance.{is_before, number_before}
 use Rattle.pth_model.specs.Order.{StandsBefore, IsNumbered, stands}
 use Rattle.pth_model.proofs.Sorted.{pairs-head, pairs-tail, same-order, sorted-order}
-use Rattle.pth_tables.specs.Counts.{AreSlotsOf, HaveOwnSlots}
 use Rattle.pth_tables.proofs.TrailsCounted.{count-yes, count-no, count-append, count-none, count-all, none-counted, contains-middle, IsSplit, split}
+
+-- these slots are those of these threads
+abbrev pub AreSlotsOf : (slot : ℕ → Option ℕ) → List ℕ → List Standing → Type 0
+AreSlotsOf slot [] [] = Unit {0}
+AreSlotsOf slot (u ∷ us) (s ∷ ss) = (slot s.tid ≡ Some u) × AreSlotsOf slot us ss
+AreSlotsOf slot us ss = ⊥
+
+-- two threads that are ready have two slots
+abbrev pub HaveOwnSlots : (slot : ℕ → Option ℕ) → List Standing → Type 0
+HaveOwnSlots slot ready = (z y : Standing) → Contains ready z → Contains ready y → slot z.tid ≡ slot y.tid → z.tid ≡ y.tid
 
 -- ---- the place
 

@@ -1,5 +1,5 @@
 -- What is kept for the waits of the ready threads is what the trail tells of them.
-use Rattle.std.specs.Prelude.{◌≡◌, ℕ, ◌+◌, ◌%◌, ◌<◌, ◌≤◌, true, false, List, [], ◌∷◌, Option, Some, Contains, All, length, drop}
+use Rattle.std.specs.Prelude.{◌≡◌, ℕ, ◌+◌, ◌%◌, ◌<◌, ◌≤◌, true, false, List, [], ◌∷◌, Option, Some, All, length, drop}
 use Rattle.pth_base.specs.Limits.{thread_limit}
 use Rattle.pth_model.specs.Standing.{Standing}
 use Rattle.pth_model.specs.Allowance.{Point, has_entry, points, waited, grace, beyond, new_at_top}
@@ -45,13 +45,3 @@ module _ (slot : ℕ → Option ℕ) (x : WaitsOf) (trail : List Point) where
     pub counted : All IsCounted ready
     -- few stood at each dispatch
     pub few : All (λ p. length p.ready ≤ thread_limit) trail
-
--- these slots are those of these threads
-abbrev pub AreSlotsOf : (slot : ℕ → Option ℕ) → List ℕ → List Standing → Type 0
-AreSlotsOf slot [] [] = Unit {0}
-AreSlotsOf slot (u ∷ us) (s ∷ ss) = (slot s.tid ≡ Some u) × AreSlotsOf slot us ss
-AreSlotsOf slot us ss = ⊥
-
--- two threads that are ready have two slots
-abbrev pub HaveOwnSlots : (slot : ℕ → Option ℕ) → List Standing → Type 0
-HaveOwnSlots slot ready = (z y : Standing) → Contains ready z → Contains ready y → slot z.tid ≡ slot y.tid → z.tid ≡ y.tid

@@ -24,7 +24,8 @@ use Rattle.pth_model.specs.Verdict.{refused, says, taken_or}
 use Rattle.pth_numbered.specs.Clauses.{◌when◌otherwise◌}
 use Rattle.pth_world.proofs.StateOf.{stands_for_state}
 use Rattle.pth_world.specs.Keeps.{KeepsAllButStore}
-use Rattle.pth_world.specs.Leading.{Attempts, IsReady, MayComeTo, StandsOnce, Tells, Tries}
+use Rattle.pth_world.specs.Leading.{Attempts, IsReady, MayComeTo, StandsOnce, Tries}
+use Rattle.pth_world.proofs.Telling.{Tells}
 use Rattle.pth_world.specs.Shows.{StandsFor}
 use Rattle.pth_world.specs.Sound.{IsSound}
 use Rattle.pth_world.specs.StateOf.{state_of}

@@ -14,7 +14,11 @@ use Rattle.pth_model.specs.Transition.{tells}
 use Rattle.pth_world.specs.World.{WorldOf}
 use Rattle.pth_world.specs.Store.{StoreOf, store_of}
 use Rattle.pth_world.specs.Shows.{Shows, StandsFor}
-use Rattle.pth_world.specs.Leading.{Leads, IsQuiet, Tells}
+use Rattle.pth_world.specs.Leading.{Leads, IsQuiet}
+
+-- the mark tells what threads stored in world v, where they had stored what they have in w
+abbrev pub Tells : {P S H : Type 0} → WorldOf P S H → Mark → WorldOf P S H → Type 0
+Tells w m v = (k : Resources) → k.store ≡ store_of w.store → (told k m).store ≡ store_of v.store
 
 -- a refused call changes nothing, but for one that awaits a condition
 pub quiet-refused : (t : Tid) (c : Call) (e : Errno) → is_await c ≡ false → IsQuiet (Answered t c (Fail e))

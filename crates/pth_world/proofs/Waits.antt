@@ -25,7 +25,8 @@ use Rattle.pth_model.specs.declared.progress.Progress.{Progress}
 use Rattle.pth_model.proofs.Once.{stands-cons}
 use Rattle.pth_tables.specs.Waits.{WaitsOf, KeptWaits, waits_of, enters_ready, leaves_ready, takes_ready, dispatched, reached_all, reached, seen_at_top, met, is_due, waited_by, allowed_by, allowed_taken, is_counting}
 use Rattle.pth_tables.specs.declared.waits.Turn.{Turn}
-use Rattle.pth_tables.specs.Counts.{Counts, IsCounted, AreSlotsOf}
+use Rattle.pth_tables.specs.Counts.{Counts, IsCounted}
+use Rattle.pth_tables.proofs.TrailsBefore.{AreSlotsOf}
 use Rattle.pth_tables.specs.CountedOf.{CountedOf, KeptQueues, IsEntryRank, MayEnter, waits_with, waits_without}
 use Rattle.std.proofs.lemmas.Int.{ints}
 use Rattle.pth_tables.proofs.CountsKept.{counts_entered, counts_later, counts_left, counts_slots}

@@ -34,10 +34,6 @@ pub record Leads {P S H : Type 0} (w : WorldOf P S H) (old new : List Mark) (tol
 abbrev pub IsQuiet : Mark → Type 0
 IsQuiet m = (k : Resources) → (told k m).store ≡ k.store
 
--- the mark tells what threads stored in world v, where they had stored what they have in w
-abbrev pub Tells : {P S H : Type 0} → WorldOf P S H → Mark → WorldOf P S H → Type 0
-Tells w m v = (k : Resources) → k.store ≡ store_of w.store → (told k m).store ≡ store_of v.store
-
 -- without a word the world came to stand for the state that is led to
 pub record Changed {P S H : Type 0} (v : WorldOf P S H) (told : Transition P S H) : Type 0 where
   pub shows : Shows v told.state.control

@@ -1,7 +1,7 @@
 use Rattle.std.proofs.Common.{◌≡◌, ◌-◌, ◌^◌, []}
 use Rattle.pth_filter.specs.Objects.{OtherStays, of_read}
 use Rattle.pth_transcript.specs.Taking.{IsStarted, ahead}
-use Rattle.pth_drawing.specs.Taken.{IsAlong}
+use Rattle.pth_drawing.proofs.Along.{IsAlong}
 use Rattle.pth_drawing.proofs.run.draw_marks.Given as goal
 
 abbrev pub invariant-lines : goal.invariant-lines

@@ -1,7 +1,8 @@
 use Rattle.std.proofs.Common.{◌≡◌, length}
 use Rattle.pth_base.specs.Chain.{StandsIn}
 use Rattle.pth_numbered.specs.Numbered.{thing_at}
-use Rattle.pth_ring.specs.Links.{event_at, ring, places_left}
+use Rattle.pth_ring.specs.Links.{event_at, ring}
+use Rattle.pth_ring.proofs.Going.{places_left}
 use Rattle.pth_ring.specs.Arena.{AreLinked, SamePlaces}
 use Rattle.pth_ring.proofs.Awaits.{awaited_in}
 use Rattle.pth_ring.proofs.marks.await_ring.Given as goal

@@ -2,7 +2,8 @@ use Rattle.std.proofs.Common.{◌≡◌, [], ◌∷◌, ◌++◌, length, find, 
 use Rattle.pth_base.specs.Chain.{StandsIn}
 use Rattle.pth_numbered.specs.Numbered.{thing_at}
 use Rattle.pth_ring.specs.Ring.{rest_of}
-use Rattle.pth_ring.specs.Links.{event_at, ring, places_left}
+use Rattle.pth_ring.specs.Links.{event_at, ring}
+use Rattle.pth_ring.proofs.Going.{places_left}
 use Rattle.pth_ring.specs.Rings.{has_occurred}
 use Rattle.pth_ring.proofs.Flips.{flip}
 use Rattle.pth_ring.proofs.rounds.find_prev.Given as goal

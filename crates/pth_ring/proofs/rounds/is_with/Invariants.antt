@@ -2,7 +2,8 @@ use Rattle.std.proofs.Common.{◌≡◌, length}
 use Rattle.pth_base.specs.Chain.{StandsIn}
 use Rattle.pth_numbered.specs.Numbered.{thing_at}
 use Rattle.pth_ring.specs.Ring.{ring_holds}
-use Rattle.pth_ring.specs.Links.{ring, places_left}
+use Rattle.pth_ring.specs.Links.{ring}
+use Rattle.pth_ring.proofs.Going.{places_left}
 use Rattle.pth_ring.proofs.rounds.is_with.Given as goal
 
 abbrev pub invariant-round : goal.invariant-round

@@ -1,7 +1,7 @@
 use Rattle.std.proofs.Common.{◌≤◌, ℕ}
 use Rattle.pth_model.specs.Run.{stops_at}
 use Rattle.pth_model.specs.State.{Given}
-use Rattle.pth_sched.specs.MachineOf.{left}
+use Rattle.pth_sched.proofs.Left.{left}
 use Rattle.pth_sched.specs.Running.{Keeps, StandsAt}
 use Rattle.pth_sched.proofs.Following.{Reaches}
 use Rattle.pth_sched.proofs.schedule.Schedule.advance.Given as goal

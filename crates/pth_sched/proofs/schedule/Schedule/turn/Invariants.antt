@@ -1,6 +1,6 @@
 use Rattle.std.proofs.Common.{◌≤◌, ℕ}
 use Rattle.pth_model.specs.State.{Given}
-use Rattle.pth_sched.specs.MachineOf.{left}
+use Rattle.pth_sched.proofs.Left.{left}
 use Rattle.pth_sched.specs.Running.{Keeps, StandsAt}
 use Rattle.pth_sched.proofs.Turning.{Turns}
 use Rattle.pth_sched.proofs.schedule.Schedule.turn.Given as goal
