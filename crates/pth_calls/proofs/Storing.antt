@@ -22,7 +22,8 @@ use Rattle.pth_model.specs.Cleanups.{cleanup_push, last_pushed, once, runs_pushe
 use Rattle.pth_model.specs.KeyStorage.{key_create, key_delete}
 use Rattle.pth_model.specs.Mutexes.{mutex_init}
 use Rattle.pth_model.specs.Rwlocks.{rw_init, rw_release}
-use Rattle.pth_model.specs.Resources.{Store, destructor_by, handler, told, answer_told, with_cleanups, with_keys, with_mutexes, with_rw_locks}
+use Rattle.pth_model.specs.Resources.{destructor_by, handler, told, answer_told}
+use Rattle.pth_model.specs.Store.{Store, with_cleanups, with_keys, with_mutexes, with_rw_locks}
 use Rattle.pth_model.specs.Row.{effect_of, refuses, unless_refused}
 use Rattle.pth_model.specs.Rows.{row_of}
 use Rattle.pth_model.specs.State.{State, Control, once_limit}

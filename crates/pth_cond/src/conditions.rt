@@ -5,7 +5,7 @@ ghost use Rattle.pth_store.specs.Storing.{AnswersWithMemory};
 ghost use Rattle.pth_cond.specs.Seats.{with_seat, without_seat, notified, handed_on, is_event, event_seats_gone, HandingOnKeepsOnes};
 ghost use Rattle.pth_cond.specs.Conditions.{conditions_of, is_initialised, is_marked_in, is_marked, IsAnyLive, HasFewEvents, NoEventIsSeated, ConditionsAreSound, all_event_seats, live_answer, cond_init_answer, cond_enter_answer, cond_notify_answer, no_conditions, cond_initialised, with_seats, seat_entered, seat_left, seat_handed_on, cond_notified, all_left, all_seats_left};
 
-use crate::seats::{SeatMark, Seat, Seats};
+use crate::seats::{Seat, SeatMark, Seats};
 use pth_base::errno::Errno;
 use pth_base::refusal::Refusal;
 use pth_lock::objects::{MOST_OBJECTS, place_of};

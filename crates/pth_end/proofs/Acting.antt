@@ -30,7 +30,8 @@ use Rattle.pth_base.specs.declared.memory.OutOfMemory.{OutOfMemory}
 use Rattle.pth_base.specs.declared.refusal.Refusal.{Refusal}
 use Rattle.std.proofs.lemmas.Result.{IfOk-weaker}
 use Rattle.pth_model.specs.Awaits.{is_await}
-use Rattle.pth_model.specs.Resources.{Resources, Store, told, answer_told, act_told, with_keys, with_mutexes}
+use Rattle.pth_model.specs.Resources.{told, answer_told, act_told}
+use Rattle.pth_model.specs.Store.{Resources, Store, with_keys, with_mutexes}
 use Rattle.pth_world.proofs.Telling.{quiet-refused, quiet_tells, tells_stands, Tells}
 use Rattle.pth_world.specs.Leading.{IsQuiet, IsTold, Leads}
 use Rattle.pth_world.specs.Shows.{Shows, StandsFor}

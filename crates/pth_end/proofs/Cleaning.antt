@@ -7,7 +7,7 @@ use Rattle.pth_base.specs.declared.mark.Mark.{Mark}
 use Rattle.pth_base.specs.declared.memory.OutOfMemory.{OutOfMemory}
 use Rattle.pth_model.specs.Acts.{runs_handler}
 use Rattle.pth_model.specs.Ending.{runs_cleanups, runs_each}
-use Rattle.pth_model.specs.Resources.{Store}
+use Rattle.pth_model.specs.Store.{Store}
 use Rattle.pth_model.specs.State.{State}
 use Rattle.pth_store.specs.Cleanups.{PushedHandler}
 use Rattle.pth_world.specs.Leading.{LedTo, Leads}

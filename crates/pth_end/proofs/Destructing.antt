@@ -8,7 +8,8 @@ use Rattle.pth_base.specs.declared.mark.Mark.TheVariants.{Destructor}
 use Rattle.pth_model.specs.declared.destructors.Due.{Due}
 use Rattle.pth_model.specs.declared.destructors.DestructorRound.{DestructorRound}
 use Rattle.pth_model.specs.Ending.{destructs, destructs_by, next_destructor, runs_destructor}
-use Rattle.pth_model.specs.Resources.{Store, told, with_keys}
+use Rattle.pth_model.specs.Resources.{told}
+use Rattle.pth_model.specs.Store.{Store, with_keys}
 use Rattle.pth_model.specs.State.{State}
 use Rattle.pth_store.specs.Keys.{with_key_value}
 use Rattle.pth_world.specs.Leading.{Leads}

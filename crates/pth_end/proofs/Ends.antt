@@ -5,7 +5,8 @@ use Rattle.pth_base.specs.Program.{Functions}
 use Rattle.pth_base.specs.declared.mark.Mark.{Mark}
 use Rattle.pth_base.specs.declared.mark.Mark.TheVariants.{Ended}
 use Rattle.pth_model.specs.Ending.{ending, leaves, dies, gives_all, other_than, runs_cleanups, runs_destructors, undoes_wait}
-use Rattle.pth_model.specs.Resources.{Resources, store_without, told}
+use Rattle.pth_model.specs.Resources.{store_without, told}
+use Rattle.pth_model.specs.Store.{Resources}
 use Rattle.pth_model.specs.State.{State}
 use Rattle.pth_model.specs.Transition.{Piece, tid, ◌and_then◌}
 use Rattle.pth_world.proofs.Frames.{frame_then, moved_frame}

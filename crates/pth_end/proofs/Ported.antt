@@ -17,7 +17,8 @@ use Rattle.pth_port.specs.Mail.{Mail, PortNames, port_put_answer, put_to}
 use Rattle.pth_port.specs.Ports.{PortsOf, mail_of, names_of, NumbersWithMemory}
 use Rattle.pth_model.specs.Awaits.{is_await}
 use Rattle.pth_model.specs.Ports.{port_put, put_done}
-use Rattle.pth_model.specs.Resources.{Resources, Store, told, answer_told, with_ports}
+use Rattle.pth_model.specs.Resources.{told, answer_told}
+use Rattle.pth_model.specs.Store.{Resources, Store, with_ports}
 use Rattle.pth_model.specs.Row.{◌trying◌}
 use Rattle.pth_model.specs.State.{Control}
 use Rattle.pth_model.specs.Transition.{changes, nothing}

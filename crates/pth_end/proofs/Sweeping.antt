@@ -18,7 +18,8 @@ use Rattle.pth_lock.specs.Sets.{contains}
 use Rattle.pth_lock.proofs.Bits.{contains-past}
 use Rattle.pth_lock.proofs.Sweeps.{by_place}
 use Rattle.pth_model.specs.Ending.{gives_mutexes, gives_locks, locks_held, mutexes_had}
-use Rattle.pth_model.specs.Resources.{Resources, Store, told, mutex_freed, with_store, with_mutexes, with_rw_locks}
+use Rattle.pth_model.specs.Resources.{told, mutex_freed}
+use Rattle.pth_model.specs.Store.{Resources, Store, with_store, with_mutexes, with_rw_locks}
 use Rattle.pth_model.specs.State.{State}
 use Rattle.pth_model.specs.Transition.{Transition, tells, tells_each, tid}
 use Rattle.pth_world.specs.Leading.{Leads}

@@ -15,7 +15,7 @@ use pth_base::mark::Mark;
 use pth_base::marks::Marks;
 use pth_base::memory::OutOfMemory;
 use pth_base::program::Program;
-use pth_model::destructors::{Due, DestructorRound};
+use pth_model::destructors::{DestructorRound, Due};
 use pth_world::world::World;
 
 /// How many rounds of destructors a thread begins at most (`PTH_DESTRUCTOR_ITERATIONS`).

@@ -39,7 +39,7 @@ use Rattle.pth_model.specs.declared.verdict.Verdict.{Verdict}
 use Rattle.pth_model.specs.declared.verdict.Verdict.TheVariants.{Says, Yields, Blocks, Ends, Kills}
 use Rattle.pth_model.specs.Verdict.{refused, says, by_result, taken_or, refused_as◌otherwise◌}
 use Rattle.pth_numbered.specs.Clauses.{count_or, ◌when◌otherwise◌}
-use Rattle.pth_model.specs.Resources.{Resources}
+use Rattle.pth_model.specs.Store.{Resources}
 use Rattle.pth_model.specs.Io.{trial_for, tries, at_once, begins_waiting, is_refused_length, select_deadline}
 use Rattle.pth_model.specs.Conditions.{seat_of}
 use Rattle.pth_model.specs.Awaits.{IsRound, is_await, is_awaiting, awaits_in, written_in, round_in}

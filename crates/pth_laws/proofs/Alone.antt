@@ -15,7 +15,9 @@ use Rattle.pth_base.proofs.Lists.{put_none}
 use Rattle.pth_base.proofs.Tables.{put_by, put_is, same_means, same_self, not_same}
 use Rattle.pth_lock.specs.Objects.{object_named}
 use Rattle.pth_lock.specs.RwLocks.{LockTables, holds, is_one, may_enter, is_written, lock_released, lock_taken, without_slot, readers_without}
-use Rattle.pth_model.specs.Resources.{Resources, locks_of_only, on_one, on_int, on_msg, told, answer_told, act_told, retaken, let_go}
+use Rattle.pth_model.specs.Resources.{on_one, on_int, on_msg, told, answer_told, act_told, retaken, let_go}
+use Rattle.pth_model.specs.Kill.{locks_of_only}
+use Rattle.pth_model.specs.Store.{Resources}
 use Rattle.pth_cond.specs.Conditions.{seat_entered}
 use Rattle.pth_cond.specs.Barriers.{barrier_reached}
 use Rattle.pth_model.specs.declared.awaits.Awaits.TheVariants.{Round, Notice, Retaking}

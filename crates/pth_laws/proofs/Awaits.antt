@@ -22,7 +22,8 @@ use Rattle.pth_threads.specs.declared.entry.Entry.{Entry}
 use Rattle.pth_threads.specs.declared.entry.NewThread.{NewThread}
 use Rattle.pth_model.specs.declared.blocked.Blocked.{Blocked}
 use Rattle.pth_model.specs.declared.progress.Progress.{Progress}
-use Rattle.pth_model.specs.Resources.{Resources, answer_told, act_told, wait_told, on_one, on_int, on_msg, retaken, let_go}
+use Rattle.pth_model.specs.Resources.{answer_told, act_told, wait_told, on_one, on_int, on_msg, retaken, let_go}
+use Rattle.pth_model.specs.Store.{Resources}
 use Rattle.pth_model.specs.State.{State, Control, Threads}
 use Rattle.pth_model.specs.Calls.{blocks}
 use Rattle.pth_model.specs.declared.awaits.Awaits.{Awaits}

@@ -10,7 +10,8 @@ use Rattle.pth_store.specs.Cleanups.{PushedHandler}
 use Rattle.pth_model.specs.declared.destructors.Due.{Due}
 use Rattle.pth_model.specs.declared.destructors.DestructorRound.{DestructorRound}
 use Rattle.pth_model.specs.Ending.{first_round, next_destructor}
-use Rattle.pth_model.specs.Resources.{Resources, no_resources, told}
+use Rattle.pth_model.specs.Resources.{told}
+use Rattle.pth_model.specs.Store.{Resources, no_resources}
 
 -- what one thread ran in a block of its marks, which stand side by side (pth_exit, pth_cleanup_pop, pth_once)
 pub record BlockRun : Type 0 where

@@ -19,7 +19,7 @@ use Rattle.pth_model.specs.Changes.{blocked_of}
 use Rattle.pth_model.specs.Ending.{ending}
 use Rattle.pth_model.specs.Part.{moves}
 use Rattle.pth_model.specs.Pass.{moment, pass}
-use Rattle.pth_model.specs.Resources.{Store}
+use Rattle.pth_model.specs.Store.{Store}
 use Rattle.pth_model.specs.Run.{run}
 use Rattle.pth_model.specs.State.{State, Given, Turn, start}
 use Rattle.pth_laws.specs.Consistent.{AreWaitsConsistent, AwaitsOwn, IsCaller}

@@ -20,7 +20,8 @@ use Rattle.pth_model.specs.declared.awaits.Awaits.TheVariants as awaited
 use Rattle.pth_model.specs.declared.blocked.Blocked.{Blocked}
 use Rattle.pth_model.specs.declared.destructors.Due.{Due}
 use Rattle.pth_model.specs.declared.destructors.DestructorRound.{DestructorRound}
-use Rattle.pth_model.specs.Resources.{Resources, told}
+use Rattle.pth_model.specs.Resources.{told}
+use Rattle.pth_model.specs.Store.{Resources}
 use Rattle.pth_model.specs.State.{State, Control}
 use Rattle.pth_model.specs.Transition.{Piece, changes, tells, tells_each, tid, where_so, ◌and◌, ◌and_then◌}
 use Rattle.pth_model.specs.Ending.{round_limit, first_round, next_destructor, other_than, stops_running, is_dead_with, undoes_wait, runs_each, runs_cleanups, runs_destructor, destructs_by, destructs, runs_destructors, mutexes_had, locks_held, gives_mutexes, gives_locks, gives_all, leaves, dies, ending}

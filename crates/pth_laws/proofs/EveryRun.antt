@@ -33,7 +33,7 @@ use Rattle.pth_model.specs.declared.progress.Progress.{Progress}
 use Rattle.pth_model.specs.Changes.{blocked_in, blocked_of}
 use Rattle.pth_model.specs.Living.{lives, is_made}
 use Rattle.pth_model.specs.Part.{Step, Close, part, part_by, next_part, next_part_by, unless_ended, is_idle, steps_on}
-use Rattle.pth_model.specs.Resources.{Resources, HasNothing}
+use Rattle.pth_model.specs.Store.{Resources, HasNothing}
 use Rattle.pth_model.specs.Run.{parts, run}
 use Rattle.pth_model.proofs.Once.{shown-all}
 use Rattle.pth_laws.proofs.Book.{Book, empty_book, after, book_of, is_kill}

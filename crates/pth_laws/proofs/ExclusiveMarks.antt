@@ -15,7 +15,8 @@ use Rattle.pth_base.proofs.Tables.{same_means}
 use Rattle.pth_lock.specs.Objects.{object_named}
 use Rattle.pth_lock.specs.Mutexes.{levels_of}
 use Rattle.pth_lock.specs.RwLocks.{is_one}
-use Rattle.pth_model.specs.Resources.{Resources, told}
+use Rattle.pth_model.specs.Resources.{told}
+use Rattle.pth_model.specs.Store.{Resources}
 use Rattle.pth_laws.specs.Marks.{is_same, at_number, thread_of, is_end_of}
 use Rattle.pth_laws.specs.Exclusive.{is_of, awaits_after, awaits, takes_level, gives, gives_up, Share, share_after, share, levels, enters, leaves, held_after, reads, writes, is_holder, IsExclusiveAt, Exclusive}
 use Rattle.pth_laws.specs.Initialised.{initialises_mutex, initialises_lock, IsInitialisedAt, Initialised}

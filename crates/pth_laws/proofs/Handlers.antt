@@ -12,7 +12,8 @@ use Rattle.pth_base.specs.declared.mark.Mark.{Mark}
 use Rattle.pth_base.specs.declared.mark.Mark.TheVariants as mark
 use Rattle.pth_base.proofs.Tables.{same_self}
 use Rattle.pth_store.specs.Cleanups.{PushedHandler}
-use Rattle.pth_model.specs.Resources.{Resources, told, act_told, answer_told}
+use Rattle.pth_model.specs.Resources.{told, act_told, answer_told}
+use Rattle.pth_model.specs.Store.{Resources}
 use Rattle.pth_model.specs.State.{State, Control}
 use Rattle.pth_model.specs.Transition.{Piece, changes, tells, tid, nothing, controlled, ◌and_then◌}
 use Rattle.pth_model.specs.Changes.{shares, with_conditions}

@@ -4,7 +4,7 @@ use Rattle.std.proofs.lemmas.Bool.{or_parts, or_from}
 use Rattle.pth_base.specs.Table.{put}
 use Rattle.pth_base.proofs.Tables.{put_by, put_here}
 use Rattle.pth_lock.specs.RwLocks.{LockTables, holds, is_one, lock_released, locks_left, without_slot}
-use Rattle.pth_model.specs.Resources.{locks_of_only}
+use Rattle.pth_model.specs.Kill.{locks_of_only}
 
 module _ (u : ℕ) where
   writes_not : (w : Option ℕ) (v : ℕ) → is_one u w ≡ false → is_one u (without_slot v w) ≡ false

@@ -21,7 +21,8 @@ use Rattle.pth_store.specs.Keys.{Tables, key_limit, is_unset, created, deleted, 
 use Rattle.pth_model.specs.declared.destructors.Due.{Due}
 use Rattle.pth_model.specs.declared.destructors.DestructorRound.{DestructorRound}
 use Rattle.pth_model.specs.Ending.{round_limit}
-use Rattle.pth_model.specs.Resources.{Resources, destructor_by, on_one, on_int, on_msg, told, answer_told, act_told}
+use Rattle.pth_model.specs.Resources.{destructor_by, on_one, on_int, on_msg, told, answer_told, act_told}
+use Rattle.pth_model.specs.Store.{Resources}
 use Rattle.pth_laws.specs.Destructors.{Owes as KeyOwes, NoneOwes as NoKeyOwes, IsFirst, IsNextDue, IsNoneDue}
 use Rattle.pth_laws.specs.Orderly.{key_after, key_at, value_after, value_of, Stage, is_later, Owes, NoneOwes, IsLeast, IsNext, IsNoneNext}
 use Rattle.pth_laws.proofs.Book.{Book, is_kill, empty_book, after, book_of}

@@ -16,7 +16,7 @@ use Rattle.pth_lock.specs.RwLocks.{holds, may_enter}
 use Rattle.pth_port.specs.Mail.{Mail, is_live, is_port, messages_at, oldest, reply_port}
 use Rattle.pth_store.specs.Keys.{key_limit}
 use Rattle.pth_model.specs.Ending.{next_destructor}
-use Rattle.pth_model.specs.Resources.{Resources}
+use Rattle.pth_model.specs.Store.{Resources}
 use Rattle.pth_laws.specs.Marks.{thread_of}
 use Rattle.pth_laws.specs.Orderly.{RanLast}
 use Rattle.pth_laws.proofs.Book.{Book, after, ran_by}

@@ -16,7 +16,9 @@ use Rattle.pth_base.proofs.Tables.{same_means, same_fails, put_by, put_here, put
 use Rattle.pth_store.specs.Cleanups.{PushedHandler}
 use Rattle.pth_port.specs.Mail.{Mail, PortNames}
 use Rattle.pth_store.specs.Keys.{key_named}
-use Rattle.pth_model.specs.Resources.{Resources, Store, HasNothing, told, answer_told, act_told, on_one, on_int, on_msg, store_of_only, wait_told, end_told}
+use Rattle.pth_model.specs.Resources.{told, answer_told, act_told, on_one, on_int, on_msg, wait_told, end_told}
+use Rattle.pth_model.specs.Kill.{store_of_only}
+use Rattle.pth_model.specs.Store.{Resources, Store, HasNothing}
 use Rattle.pth_lock.specs.Objects.{object_named}
 use Rattle.pth_lock.specs.Mutexes.{MutexTable}
 use Rattle.pth_lock.specs.RwLocks.{LockTables}

@@ -11,7 +11,8 @@ use Rattle.pth_base.specs.declared.mark.Mark.TheVariants as mark
 use Rattle.pth_base.proofs.Tables.{put_by, same_means}
 use Rattle.pth_lock.specs.Objects.{object_named}
 use Rattle.pth_lock.specs.Mutexes.{Mutex, MutexTable, free_mutex, mutex_with, mutex_taken, mutex_released, levels_of, has, is_anothers}
-use Rattle.pth_model.specs.Resources.{Resources, on_one, on_int, on_msg, told, answer_told, act_told, retaken, let_go}
+use Rattle.pth_model.specs.Resources.{on_one, on_int, on_msg, told, answer_told, act_told, retaken, let_go}
+use Rattle.pth_model.specs.Store.{Resources}
 
 -- u's levels of a mutex of which t has n
 pub levels_with : (u t n k : ℕ) → (t ≡ u → n ≤ k) → levels_of u (mutex_with t n) ≤ k

@@ -13,7 +13,9 @@ use Rattle.pth_base.proofs.Tables.{put_by}
 use Rattle.pth_lock.specs.Objects.{object_limit, object_named}
 use Rattle.pth_lock.specs.Mutexes.{Mutex, MutexTable, free_mutex, has, is_anothers, mutexes_left}
 use Rattle.pth_lock.specs.RwLocks.{LockTables, holds, is_one, lock_initialised, lock_released, lock_taken, locks_left}
-use Rattle.pth_model.specs.Resources.{Resources, no_resources, mutexes_of_only, locks_of_only, on_one, on_int, on_msg, told, answer_told, act_told, retaken, let_go}
+use Rattle.pth_model.specs.Resources.{on_one, on_int, on_msg, told, answer_told, act_told, retaken, let_go}
+use Rattle.pth_model.specs.Kill.{mutexes_of_only, locks_of_only}
+use Rattle.pth_model.specs.Store.{Resources, no_resources}
 use Rattle.pth_laws.proofs.Book.{Book, after, book_of}
 use Rattle.pth_laws.proofs.Laws.{EachMark, IsAnswerExclusive, IsExclusiveMark, MayTake}
 use Rattle.pth_laws.proofs.Held.{out_released, out_left, out_only}

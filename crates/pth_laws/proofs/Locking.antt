@@ -24,7 +24,7 @@ use Rattle.pth_model.specs.declared.awaits.Awaits.{Awaits}
 use Rattle.pth_model.specs.declared.awaits.Awaits.TheVariants as awaits
 use Rattle.pth_model.specs.Acts.{answer_in}
 use Rattle.pth_model.specs.Calls.{unless_settled}
-use Rattle.pth_model.specs.Resources.{Resources}
+use Rattle.pth_model.specs.Store.{Resources}
 use Rattle.pth_model.specs.Ports.{put_done, says_message}
 use Rattle.pth_model.specs.RingWaits.{extra_ring, is_no_ring, is_claimed_ring}
 use Rattle.pth_model.specs.Rows.{row_of}

@@ -14,7 +14,8 @@ use Rattle.pth_base.specs.declared.mark.Mark.TheVariants as mark
 use Rattle.pth_base.proofs.Tables.{not_same, put_by, put_here, put_other}
 use Rattle.pth_numbered.specs.Operands.{number, is_zero}
 use Rattle.pth_port.specs.Mail.{Mail, Message, is_live, is_port, messages_of, messages_at, no_mail, oldest, with_port, put_to, sent, sent_back, got, replied, closed_port}
-use Rattle.pth_model.specs.Resources.{Resources, on_one, on_int, told, act_told, answer_told}
+use Rattle.pth_model.specs.Resources.{on_one, on_int, told, act_told, answer_told}
+use Rattle.pth_model.specs.Store.{Resources}
 use Rattle.pth_laws.specs.InOrder.{port_index, reply_index, by_index, mail_after, mail, queue, IsOldest, IsInOrderAt, InOrder}
 use Rattle.pth_laws.specs.Marks.{at_number}
 use Rattle.pth_laws.proofs.Book.{Book, empty_book, after, book_of}

@@ -22,7 +22,8 @@ use Rattle.pth_store.specs.Keys.{Tables, first_live}
 use Rattle.pth_model.specs.declared.destructors.Due.{Due}
 use Rattle.pth_model.specs.declared.destructors.DestructorRound.{DestructorRound}
 use Rattle.pth_model.specs.Ending.{round_limit, first_round, due, due_by, next_destructor}
-use Rattle.pth_model.specs.Resources.{Resources, no_resources, handler, on_one, on_int, on_msg, told, answer_told, act_told, told_all}
+use Rattle.pth_model.specs.Resources.{handler, on_one, on_int, on_msg, told, answer_told, act_told, told_all}
+use Rattle.pth_model.specs.Store.{Resources, no_resources}
 use Rattle.pth_model.proofs.Told.{told_more}
 use Rattle.pth_laws.specs.Marks.{thread_of, is_end_of, is_cancellation_of, is_call_of, is_of_block, block_at_end, before_block}
 use Rattle.pth_laws.specs.Orderly.{pending_after, pending_handlers, handlers_in, AreHandlersFirst, Stage, first_stage, IsNext, IsSequence, IsOrderlyAt, Orderly}

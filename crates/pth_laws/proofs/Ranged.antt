@@ -24,7 +24,8 @@ use Rattle.pth_model.specs.Transition.{controlled}
 use Rattle.pth_model.specs.Changes.{sets, goes_on, is_blocked_by, makes, forgets, adds_object, puts_object, with_conditions, with_barriers, blocked_of, or_nobody, entry_of}
 use Rattle.pth_model.specs.RingWaits.{claims, extra_ring, gives_back, ring_given, ring_held, stops_waiting}
 use Rattle.pth_model.specs.ThreadControl.{values_for, or_first, child_of}
-use Rattle.pth_model.specs.LibraryControl.{vanish_all_but, only_at}
+use Rattle.pth_model.specs.LibraryControl.{vanish_all_but}
+use Rattle.pth_model.specs.Kill.{only_at}
 use Rattle.pth_model.specs.Pass.{looks}
 use Rattle.pth_model.specs.Run.{run}
 use Rattle.pth_laws.specs.Priorities.{HasBasePriorities}

@@ -8,7 +8,8 @@ use Rattle.pth_base.specs.declared.call.Call.TheVariants as call
 use Rattle.pth_base.specs.declared.errno.Errno.{Errno}
 use Rattle.pth_base.specs.declared.mark.Mark.TheVariants as mark
 use Rattle.pth_model.specs.declared.next.Next.TheVariants as next
-use Rattle.pth_model.specs.Resources.{Resources, told, answer_told, retaken}
+use Rattle.pth_model.specs.Resources.{told, answer_told, retaken}
+use Rattle.pth_model.specs.Store.{Resources}
 use Rattle.pth_model.specs.State.{State}
 use Rattle.pth_model.specs.Transition.{Piece, tid}
 use Rattle.pth_model.specs.declared.verdict.Verdict.{Verdict}

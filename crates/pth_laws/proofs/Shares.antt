@@ -15,7 +15,8 @@ use Rattle.pth_base.proofs.Tables.{same_means, same_fails, not_same, put_by}
 use Rattle.pth_lock.specs.Objects.{object_named}
 use Rattle.pth_lock.specs.Mutexes.{Mutex, MutexTable, free_mutex, has, is_anothers, levels_of, mutex_with, mutexes_left}
 use Rattle.pth_lock.specs.RwLocks.{LockTables, holds, is_one, is_written, is_read, may_enter, lock_initialised, lock_released, lock_taken, locks_left, without_slot, readers_without}
-use Rattle.pth_model.specs.Resources.{Resources, on_one, on_int, on_msg, told, act_told, answer_told, retaken, let_go}
+use Rattle.pth_model.specs.Resources.{on_one, on_int, on_msg, told, act_told, answer_told, retaken, let_go}
+use Rattle.pth_model.specs.Store.{Resources}
 use Rattle.pth_laws.proofs.Book.{Book, is_kill}
 use Rattle.pth_laws.proofs.Laws.{IsAnswerExclusive, IsExclusiveMark, MayTake, MayEnter, HasMutex}
 use Rattle.pth_laws.specs.Marks.{is_same}

@@ -33,7 +33,8 @@ use Rattle.pth_model.specs.declared.awaits.Retake.{Retake}
 use Rattle.pth_model.specs.declared.awaits.Retake.TheVariants as retake
 use Rattle.pth_model.specs.declared.next.Next.{Next}
 use Rattle.pth_model.specs.declared.next.Next.TheVariants as next
-use Rattle.pth_model.specs.Resources.{Resources, told, answer_told, wait_told, handler}
+use Rattle.pth_model.specs.Resources.{told, answer_told, wait_told, handler}
+use Rattle.pth_model.specs.Store.{Resources}
 use Rattle.pth_model.specs.declared.verdict.Verdict.{Verdict}
 use Rattle.pth_model.specs.declared.verdict.Verdict.TheVariants.{Says, Yields, Blocks, Ends, Kills}
 use Rattle.pth_model.specs.Verdict.{refused, says}

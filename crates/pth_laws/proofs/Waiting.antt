@@ -29,7 +29,9 @@ use Rattle.pth_model.specs.declared.blocked.Blocked.{Blocked}
 use Rattle.pth_model.specs.declared.progress.Progress.{Progress}
 use Rattle.pth_model.specs.declared.verdict.Verdict.TheVariants.{Blocks}
 use Rattle.pth_model.specs.Coming.{has_come}
-use Rattle.pth_model.specs.Resources.{Resources, on_one, on_int, on_msg, told, answer_told, act_told, retaken, let_go, of_only}
+use Rattle.pth_model.specs.Resources.{on_one, on_int, on_msg, told, answer_told, act_told, retaken, let_go}
+use Rattle.pth_model.specs.Kill.{of_only}
+use Rattle.pth_model.specs.Store.{Resources}
 use Rattle.pth_model.specs.State.{State, Given, start, main}
 use Rattle.pth_model.specs.Transition.{controlled, tells, tid}
 use Rattle.pth_model.specs.Changes.{sets, goes_on, blocking, is_blocked_by, makes, forgets, with_conditions, with_barriers, blocked_in, blocked_of}

@@ -3,7 +3,7 @@ use Rattle.std.specs.Prelude.{◌≡◌, ◌⊎◌, ℕ, true, false, All, Some,
 use Rattle.pth_queue.specs.declared.queue.Queue.{Queue}
 use Rattle.pth_queue.specs.declared.queue.Queue.TheVariants.{Dead}
 use Rattle.pth_model.specs.Awaits.{is_awaiting}
-use Rattle.pth_model.specs.Resources.{HasNothing}
+use Rattle.pth_model.specs.Store.{HasNothing}
 use Rattle.pth_model.specs.Standing.{is_queue}
 use Rattle.pth_model.specs.State.{State, Turn, queue}
 use Rattle.pth_model.specs.Changes.{holders, blocked_of}

@@ -19,7 +19,7 @@ use Rattle.pth_model.specs.Changes.{blocked_of}
 use Rattle.pth_model.specs.Coming.{has_come}
 use Rattle.pth_model.specs.Conditions.{can_take}
 use Rattle.pth_model.specs.Mutexes.{mutex}
-use Rattle.pth_model.specs.Resources.{Resources}
+use Rattle.pth_model.specs.Store.{Resources}
 use Rattle.pth_model.specs.Row.{Row}
 use Rattle.pth_model.specs.Rows.{row_of}
 use Rattle.pth_model.specs.Rwlocks.{lets_in}

@@ -4,7 +4,7 @@ use Rattle.pth_base.specs.Table.{put}
 use Rattle.pth_base.proofs.Tables.{put_by, put_here, put_other, not_same}
 use Rattle.pth_lock.specs.Mutexes.{Mutex, MutexTable, free_mutex, has, is_anothers, levels_of, mutex_initialised, mutex_released, mutex_taken, mutex_with, mutexes_left}
 use Rattle.pth_lock.specs.RwLocks.{LockTables, holds, is_one, lock_initialised, lock_released, lock_taken, locks_left, without_slot}
-use Rattle.pth_model.specs.Resources.{mutexes_of_only, locks_of_only}
+use Rattle.pth_model.specs.Kill.{mutexes_of_only, locks_of_only}
 
 neither : (a b : Bool) → (a || b) ≡ false → (a ≡ false) × (b ≡ false)
 neither true b h = absurd (cc h)

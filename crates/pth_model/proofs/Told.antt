@@ -19,7 +19,8 @@ use Rattle.pth_base.specs.declared.answer.Answer.TheVariants.{Int}
 use Rattle.pth_model.specs.Awaits.{awaits_in, round_in}
 use Rattle.pth_model.specs.Barriers.{tries_round, withdraws, withdraws_from}
 use Rattle.pth_model.specs.declared.progress.Progress.{Progress}
-use Rattle.pth_model.specs.Resources.{Resources, no_resources, told, told_all}
+use Rattle.pth_model.specs.Resources.{told, told_all}
+use Rattle.pth_model.specs.Store.{Resources, no_resources}
 use Rattle.pth_model.specs.LibraryControl.{ctrl}
 use Rattle.pth_model.specs.declared.verdict.Verdict.{Verdict}
 use Rattle.pth_model.specs.declared.verdict.Verdict.TheVariants.{Says, Yields, Blocks, Ends, Kills}

@@ -1,5 +1,7 @@
 pub mod Awaits
 pub mod Verdict
+pub mod Store
+pub mod Kill
 pub mod Resources
 pub mod Standing
 pub mod Allowance

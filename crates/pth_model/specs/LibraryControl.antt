@@ -15,15 +15,12 @@ use Rattle.pth_cond.specs.Barriers.{all_withdrawn}
 use Rattle.pth_model.specs.declared.verdict.Verdict.TheVariants.{Says, Kills}
 use Rattle.pth_model.specs.Verdict.{refused, says}
 use Rattle.pth_numbered.specs.Clauses.{◌when◌otherwise◌}
+use Rattle.pth_model.specs.Kill.{only_at}
 use Rattle.pth_model.specs.State.{State, main, present, queue}
 use Rattle.pth_model.specs.Transition.{Change, nothing}
 use Rattle.pth_model.specs.Changes.{or_nobody, favours_new}
 use Rattle.pth_model.specs.Row.{Row, ◌changing◌}
 use Rattle.pth_model.specs.ThreadControl.{thread, is_known}
-
--- what a table has at t alone
-abbrev pub only_at : {A : Type 0} → ℕ → (ℕ → Option A) → ℕ → Option A
-only_at t f u = if u == t then f u else None
 
 abbrev pub running_count : Option ℕ → ℕ
 running_count None = 0

@@ -18,7 +18,7 @@ use Rattle.pth_ring.specs.Rings.{Events, no_events}
 use Rattle.pth_cond.specs.Conditions.{ConditionTable, no_conditions}
 use Rattle.pth_cond.specs.Barriers.{BarrierTable, no_barriers}
 use Rattle.pth_kernel.specs.Kernel.{Kernel}
-use Rattle.pth_model.specs.Resources.{Resources, no_resources}
+use Rattle.pth_model.specs.Store.{Resources, no_resources}
 use Rattle.pth_model.specs.Standing.{Standing, shown, raises_of}
 use Rattle.pth_model.specs.Allowance.{Point, allowed, standing_of, waited}
 

@@ -1,7 +1,8 @@
 //! What is seen of resources.
 
 ghost use Rattle.std.specs.Prelude.{◌≡◌, ℕ};
-ghost use Rattle.pth_model.specs.Resources.{no_resources, told_all};
+ghost use Rattle.pth_model.specs.Resources.{told_all};
+ghost use Rattle.pth_model.specs.Store.{no_resources};
 ghost use Rattle.pth_model.specs.Run.{run};
 ghost use Rattle.pth_model.specs.State.{Given};
 

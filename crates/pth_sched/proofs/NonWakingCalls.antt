@@ -44,7 +44,8 @@ use Rattle.pth_model.specs.Changes.{blocked_of, blocked_in, blocking, favours_ne
 use Rattle.pth_model.specs.Cancellation.{may_be_canceled}
 use Rattle.pth_model.specs.Calls.{begun, begun_as, gone_on, gone_on_where, tried_again_by, canceled_by, tried, tried_again, interrupted, unless_settled, waits_by, gone_on_by}
 use Rattle.pth_model.specs.Part.{owes_after, stepping}
-use Rattle.pth_model.specs.Resources.{Resources, told, answer_told, wait_told}
+use Rattle.pth_model.specs.Resources.{told, answer_told, wait_told}
+use Rattle.pth_model.specs.Store.{Resources}
 use Rattle.pth_model.specs.RingWaits.{ring_given, claims, extra_ring, has_settled, is_no_ring}
 use Rattle.pth_model.specs.Row.{refuses, unless_refused, ◌trying◌}
 use Rattle.pth_model.specs.Rows.{row_of}

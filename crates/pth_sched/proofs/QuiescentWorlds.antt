@@ -17,7 +17,7 @@ use Rattle.pth_model.specs.Cancellation.{may_be_canceled}
 use Rattle.pth_model.specs.Changes.{blocked_in, blocked_of, entry_of}
 use Rattle.pth_model.specs.Part.{readies_new, runs, turn_ends}
 use Rattle.pth_model.specs.Pass.{looks, waiting, pass, all_woken}
-use Rattle.pth_model.specs.Resources.{Store}
+use Rattle.pth_model.specs.Store.{Store}
 use Rattle.pth_model.specs.ThreadEnds.{is_alone}
 use Rattle.pth_model.specs.Transition.{controlled, changes, ◌and_then◌}
 use Rattle.pth_world.specs.Leading.{Leads}

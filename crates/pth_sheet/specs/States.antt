@@ -19,8 +19,8 @@ use Rattle.pth_cond.specs.Conditions.{ConditionTable, all_seats_left}
 use Rattle.pth_port.specs.Mail.{Message, Mail, PortNames, port_limit, message_limit, is_live, is_port, messages_at, messages, port_named, reply_port}
 use Rattle.pth_kernel.specs.Kernel.{Kernel}
 use Rattle.pth_model.specs.Changes as change
-use Rattle.pth_model.specs.LibraryControl.{only_at}
-use Rattle.pth_model.specs.Resources as resources
+use Rattle.pth_model.specs.Kill.{of_only, only_at}
+use Rattle.pth_model.specs.Store as resources
 use Rattle.pth_model.specs.RingWaits.{claims, stops_waiting, extra_ring, is_no_ring, is_claimed_ring, has_settled}
 use Rattle.pth_model.specs.State.{State, Control, present}
 use Rattle.pth_model.specs.ThreadControl.{thread, is_known}
@@ -62,7 +62,7 @@ module _ {P S H : Type 0} where
   leaves_only t s =
       let k = s.control in
       record {
-        resources = resources.of_only t s.resources;
+        resources = of_only t s.resources;
         control = record k {
           threads = record k.threads {
             known = only_at t k.threads.known;

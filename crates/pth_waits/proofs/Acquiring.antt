@@ -14,7 +14,8 @@ use Rattle.pth_lock.specs.RwLocks.{holds, lock_take_answer, lock_taken}
 use Rattle.pth_model.specs.declared.awaits.Awaits.{Awaits}
 use Rattle.pth_model.specs.declared.verdict.Verdict.{Verdict}
 use Rattle.pth_model.specs.declared.verdict.Verdict.TheVariants.{Blocks}
-use Rattle.pth_model.specs.Resources.{Store, answer_told, told, with_mutexes, with_rw_locks}
+use Rattle.pth_model.specs.Resources.{answer_told, told}
+use Rattle.pth_model.specs.Store.{Store, with_mutexes, with_rw_locks}
 use Rattle.pth_model.specs.RingWaits.{is_claimed_ring, is_no_ring}
 use Rattle.pth_model.specs.Row.{◌trying◌}
 use Rattle.pth_model.specs.Rwlocks.{is_lock, is_open, lets_in}

@@ -8,7 +8,9 @@ use Rattle.pth_base.specs.declared.mark.Mark.TheVariants.{Answered}
 use Rattle.pth_model.specs.declared.next.Next.TheVariants as next
 use Rattle.pth_model.specs.Calls.{begun}
 use Rattle.pth_model.specs.LibraryControl.{vanish_all_but}
-use Rattle.pth_model.specs.Resources.{Resources, store_of_only, told, answer_told}
+use Rattle.pth_model.specs.Resources.{told, answer_told}
+use Rattle.pth_model.specs.Kill.{store_of_only}
+use Rattle.pth_model.specs.Store.{Resources}
 use Rattle.pth_model.specs.Rows.{row_of}
 use Rattle.pth_model.specs.State.{State, main}
 use Rattle.pth_model.specs.Transition.{tid, changes, tells, ◌and_then◌, ◌and_next◌}

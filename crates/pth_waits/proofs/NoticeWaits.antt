@@ -23,7 +23,8 @@ use Rattle.pth_model.specs.Calls.{awaits_on, awaits_on_where, blocks, retaken_as
 use Rattle.pth_model.specs.Cancellation.{may_be_canceled}
 use Rattle.pth_model.specs.Changes.{with_conditions}
 use Rattle.pth_model.specs.Conditions.{begins_await, cond_await, is_noticed, seat_of}
-use Rattle.pth_model.specs.Resources.{Store, answer_told, let_go, retaken, told, with_mutexes}
+use Rattle.pth_model.specs.Resources.{answer_told, let_go, retaken, told}
+use Rattle.pth_model.specs.Store.{Store, with_mutexes}
 use Rattle.pth_model.specs.RingWaits.{claims, extra_ring, has_settled, is_claimed_ring, is_no_ring}
 use Rattle.pth_model.specs.State.{Control, State}
 use Rattle.pth_model.specs.Transition.{Change, Last, Piece, changes, controlled, tells, tid, ◌and_finally◌, ◌and_next◌, ◌and_then◌}

@@ -12,7 +12,7 @@ ghost use Rattle.pth_model.specs.Changes.{with_conditions};
 ghost use Rattle.pth_model.specs.Conditions.{cond_await, is_noticed, leaves_seat, seat_of};
 ghost use Rattle.pth_model.specs.RingWaits.{claims};
 ghost use Rattle.pth_model.specs.Ending.{ending};
-ghost use Rattle.pth_model.specs.Resources.{with_mutexes};
+ghost use Rattle.pth_model.specs.Store.{with_mutexes};
 ghost use Rattle.pth_model.specs.State.{Control, State};
 ghost use Rattle.pth_model.specs.Transition.{changes, nothing, tells, ◌and_then◌, ◌and_next◌};
 ghost use Rattle.pth_model.specs.declared.awaits.Awaits.TheVariants.{Notice, Retaking};

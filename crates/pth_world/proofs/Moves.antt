@@ -17,7 +17,8 @@ use Rattle.pth_model.specs.Changes.{queue_for, or_nobody}
 use Rattle.pth_world.specs.World.{WorldOf, ThreadsBySlot, entry_in}
 use Rattle.pth_model.specs.Ending.{other_than}
 use Rattle.pth_model.specs.Living.{is_dead}
-use Rattle.pth_model.specs.Resources.{Store, store_without}
+use Rattle.pth_model.specs.Resources.{store_without}
+use Rattle.pth_model.specs.Store.{Store}
 use Rattle.pth_model.specs.ThreadControl.{may_run}
 use Rattle.pth_world.specs.Store.{StoreOf, store_of, HasNothing}
 use Rattle.pth_world.specs.Sound.{IsSound, IsKnown, IsAlive, HasPrio, lives}

@@ -38,7 +38,7 @@ use Rattle.pth_port.specs.Mail.{PortNames, no_mail, no_names}
 use Rattle.pth_port.specs.Ports.{PortsOf, mail_of, names_of}
 use Rattle.pth_store.specs.Cleanups.{Stacks, no_cleanups}
 use Rattle.pth_store.specs.Keys.{Tables, no_keys}
-use Rattle.pth_model.specs.Resources.{Store, no_resources}
+use Rattle.pth_model.specs.Store.{Store, no_resources}
 use Rattle.pth_world.specs.Beginnings.{IsBeforeMain}
 use Rattle.pth_world.specs.Store.{store_of, stored_by, HasNothing}
 use Rattle.pth_world.specs.World.{WorldOf, ThreadsBySlot, before_main}

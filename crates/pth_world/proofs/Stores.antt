@@ -18,7 +18,8 @@ use Rattle.pth_port.specs.Mail.{Mail, PortNames, no_mail, no_names}
 use Rattle.pth_port.specs.Ports.{PortsOf, mail_of, names_of}
 use Rattle.pth_store.specs.Cleanups.{PushedHandler, Stacks, is_full_stack, push_answer, below_top_answer, no_cleanups, emptied, top_taken, without_top}
 use Rattle.pth_store.specs.Keys.{Tables, key_limit, key_named, is_key, key_create_answer, key_delete_answer, key_get_answer, key_set_answer, first_live, owed, owed_for, created, deleted, with_key_value, forgotten, no_keys}
-use Rattle.pth_model.specs.Resources.{Store, no_resources, store_without, with_cleanups, with_keys, with_mutexes, with_rw_locks}
+use Rattle.pth_model.specs.Resources.{store_without}
+use Rattle.pth_model.specs.Store.{Store, no_resources, with_cleanups, with_keys, with_mutexes, with_rw_locks}
 use Rattle.pth_model.specs.State.{Control}
 use Rattle.pth_world.specs.World.{WorldOf, ThreadsBySlot, entry_in}
 use Rattle.pth_world.specs.Keeps.{KeepsAllButStore}

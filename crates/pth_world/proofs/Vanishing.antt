@@ -29,8 +29,10 @@ use Rattle.pth_model.specs.Standing.{shown, order}
 use Rattle.pth_model.specs.State.{Control}
 use Rattle.pth_model.specs.Changes.{leaves_queue, forgets, removes}
 use Rattle.pth_model.specs.Ending.{other_than}
-use Rattle.pth_model.specs.LibraryControl.{only_at, vanish_all_but}
-use Rattle.pth_model.specs.Resources.{Store, locks_of_only, store_of_only, store_without}
+use Rattle.pth_model.specs.LibraryControl.{vanish_all_but}
+use Rattle.pth_model.specs.Kill.{only_at, locks_of_only, store_of_only}
+use Rattle.pth_model.specs.Resources.{store_without}
+use Rattle.pth_model.specs.Store.{Store}
 use Rattle.pth_model.proofs.Queues.{rows_without}
 use Rattle.pth_world.specs.Store.{store_of, HasNothing}
 use Rattle.pth_world.specs.World.{WorldOf}

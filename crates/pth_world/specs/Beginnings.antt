@@ -5,7 +5,7 @@ use Rattle.pth_base.specs.Program.{Functions}
 use Rattle.pth_base.specs.Table.{table}
 use Rattle.pth_lock.specs.Mutexes.{MutexTable, no_mutexes}
 use Rattle.pth_lock.specs.RwLocks.{LockTables, no_locks}
-use Rattle.pth_model.specs.Resources.{no_resources}
+use Rattle.pth_model.specs.Store.{no_resources}
 use Rattle.pth_model.specs.State.{Given}
 use Rattle.pth_model.specs.declared.progress.Progress.{Progress}
 use Rattle.pth_queue.specs.Queues.{no_queues}

@@ -10,7 +10,8 @@ use Rattle.pth_base.specs.declared.mark.Mark.{Mark}
 use Rattle.pth_base.specs.declared.mark.Mark.TheVariants.{Answered, Waits}
 use Rattle.pth_base.specs.declared.memory.OutOfMemory.{OutOfMemory}
 use Rattle.pth_model.specs.Changes.{blocked_of}
-use Rattle.pth_model.specs.Resources.{Resources, told}
+use Rattle.pth_model.specs.Resources.{told}
+use Rattle.pth_model.specs.Store.{Resources}
 use Rattle.pth_model.specs.RingWaits.{claims}
 use Rattle.pth_model.specs.State.{Control, State}
 use Rattle.pth_model.specs.Transition.{Transition, Last, controlled, silent, tells, tid, ◌and_then◌}

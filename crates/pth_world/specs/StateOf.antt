@@ -13,7 +13,7 @@ use Rattle.pth_ring.specs.Arena.{events_of}
 use Rattle.pth_cond.specs.Conditions.{conditions_of}
 use Rattle.pth_cond.specs.Barriers.{barriers_of}
 use Rattle.pth_kernel.specs.Kernel.{kernel_of}
-use Rattle.pth_model.specs.Resources.{no_resources}
+use Rattle.pth_model.specs.Store.{no_resources}
 use Rattle.pth_model.specs.Standing.{Standing}
 use Rattle.pth_model.specs.Allowance.{Point}
 use Rattle.pth_model.specs.State.{State}

@@ -19,9 +19,9 @@ use Rattle.pth_lock.specs.RwLocks.{LockTables}
 use Rattle.pth_port.specs.Ports.{PortsOf, mail_of, names_of}
 use Rattle.pth_store.specs.Keys.{Tables}
 use Rattle.pth_store.specs.Cleanups.{PushedHandler, Stacks}
-use Rattle.pth_model.specs.Resources.{Store}
+use Rattle.pth_model.specs.Store.{Store}
 use Rattle.pth_model.specs.Transition.{tid}
-pub use Rattle.pth_model.specs.Resources.{HasNothing}
+pub use Rattle.pth_model.specs.Store.{HasNothing}
 
 -- the numbers of threads are below, and the keys and objects that operands name
 abbrev pub name_limit : ℕ

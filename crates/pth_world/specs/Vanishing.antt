@@ -4,7 +4,7 @@ use Rattle.pth_queue.specs.declared.queue.Queue.{Queue}
 use Rattle.pth_queue.specs.Queues.{rows_of}
 use Rattle.pth_model.specs.State.{Control}
 use Rattle.pth_model.specs.LibraryControl.{vanish_all_but}
-use Rattle.pth_model.specs.Resources.{store_of_only}
+use Rattle.pth_model.specs.Kill.{store_of_only}
 use Rattle.pth_threads.specs.Threads.{slot_of}
 use Rattle.pth_world.specs.Store.{store_of, HasNothing}
 use Rattle.pth_world.specs.World.{WorldOf}

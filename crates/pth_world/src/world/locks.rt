@@ -5,7 +5,7 @@ ghost use Rattle.pth_lock.specs.Mutexes.{has, mutex_free_answer, mutex_init_answ
 ghost use Rattle.pth_lock.specs.Objects.{object_limit, object_named};
 ghost use Rattle.pth_lock.specs.RwLocks.{holds, lock_free_answer, lock_init_answer, lock_initialised, lock_release_answer, lock_released, lock_take_answer, lock_taken, locks_left};
 ghost use Rattle.pth_lock.specs.Sets.{contains};
-ghost use Rattle.pth_model.specs.Resources.{with_mutexes, with_rw_locks};
+ghost use Rattle.pth_model.specs.Store.{with_mutexes, with_rw_locks};
 ghost use Rattle.pth_world.specs.Keeps.{KeepsAllButStore};
 ghost use Rattle.pth_world.specs.Sound.{IsSound, IsKnown, IsAlive};
 ghost use Rattle.pth_world.specs.Store.{owner_answer, store_of};

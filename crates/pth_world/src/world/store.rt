@@ -1,7 +1,8 @@
 //! What threads have stored: cleanup handlers, and values under keys.
 
 ghost use Rattle.std.specs.Prelude.{◌≡◌, ◌≤◌, true, pos, length, OnOk, OnErr, IfOk};
-ghost use Rattle.pth_model.specs.Resources.{store_without, with_cleanups, with_keys};
+ghost use Rattle.pth_model.specs.Resources.{store_without};
+ghost use Rattle.pth_model.specs.Store.{with_cleanups, with_keys};
 ghost use Rattle.pth_store.specs.Cleanups.{below_top_answer, cleanup_limit, pop_answer, push_answer, top_taken, with_top};
 ghost use Rattle.pth_store.specs.Keys.{created, deleted, first_live, key_create_answer, key_delete_answer, key_get_answer, key_named, key_set_answer, with_key_value};
 ghost use Rattle.pth_store.specs.Storing.{AnswersWithMemory};

@@ -6,7 +6,7 @@ ghost use Rattle.std.specs.Prelude.{◌≡◌, [], Some};
 ghost use Rattle.pth_queue.specs.Queues.{rows_of};
 ghost use Rattle.pth_model.specs.State.{Control};
 ghost use Rattle.pth_model.specs.LibraryControl.{vanish_all_but};
-ghost use Rattle.pth_model.specs.Resources.{store_of_only};
+ghost use Rattle.pth_model.specs.Kill.{store_of_only};
 ghost use Rattle.pth_world.specs.Ranks.{KeepsRanks};
 ghost use Rattle.pth_world.specs.Shows.{Shows};
 ghost use Rattle.pth_world.specs.Sound.{IsSound, IsKnown};

@@ -5,7 +5,7 @@ use Rattle.pth_base.specs.declared.call.Call.TheVariants.{CleanupPop}
 use Rattle.pth_base.specs.declared.errno.Errno.TheVariants.{EINVAL}
 use Rattle.pth_base.specs.declared.mark.Mark.TheVariants.{Answered}
 use Rattle.pth_model.specs.Acts.{runs_handler}
-use Rattle.pth_model.specs.Resources.{Store}
+use Rattle.pth_model.specs.Store.{Store}
 use Rattle.pth_model.specs.Transition.{tells, where_so}
 use Rattle.pth_numbered.specs.Operands.{is_zero}
 use Rattle.pth_store.specs.Cleanups.{pop_answer}

@@ -1,5 +1,5 @@
 use Rattle.std.proofs.Common.{refl, ap, SFits, w64, to_z-of_z, rules}
-use Rattle.pth_model.specs.Resources.{Store, with_mutexes}
+use Rattle.pth_model.specs.Store.{Store, with_mutexes}
 use Rattle.pth_world.proofs.Stores.{either}
 use Rattle.pth_world.specs.Store.{store_of}
 use Rattle.pth_world.specs.World.{WorldOf}

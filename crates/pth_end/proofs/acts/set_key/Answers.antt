@@ -1,6 +1,6 @@
 use Rattle.std.proofs.Common.{refl, ap, SFits, w64, to_z-of_z, rules}
 use Rattle.pth_base.specs.declared.call.Call.TheVariants.{KeySet}
-use Rattle.pth_model.specs.Resources.{Store, with_keys}
+use Rattle.pth_model.specs.Store.{Store, with_keys}
 use Rattle.pth_store.specs.Keys.{key_named, key_set_answer, with_key_value}
 use Rattle.pth_world.specs.Store.{store_of}
 use Rattle.pth_world.specs.World.{WorldOf}

@@ -3,7 +3,7 @@ use Rattle.std.proofs.lemmas.Result.{err_from_is_err_and, on_ok_weaker}
 use Rattle.pth_base.proofs.Cuts.{cut_none}
 use Rattle.pth_base.specs.declared.mark.Mark.TheVariants.{Destructor}
 use Rattle.pth_model.specs.Acts.{handled}
-use Rattle.pth_model.specs.Resources.{Store}
+use Rattle.pth_model.specs.Store.{Store}
 use Rattle.pth_model.specs.Transition.{tells}
 use Rattle.pth_world.proofs.Telling.{tells_leads}
 use Rattle.pth_world.specs.Shows.{StandsFor}

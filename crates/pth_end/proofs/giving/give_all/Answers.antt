@@ -1,7 +1,7 @@
 use Rattle.std.proofs.Common.{ap, arith}
 use Rattle.std.proofs.lemmas.Result.{err_from_is_err_and, on_ok_weaker, on_err_weaker}
 use Rattle.pth_model.specs.Ending.{gives_mutexes, gives_locks}
-use Rattle.pth_model.specs.Resources.{Store}
+use Rattle.pth_model.specs.Store.{Store}
 use Rattle.pth_end.proofs.Handled.{handled_stored, handled_then}
 use Rattle.pth_end.proofs.Chains.{leads_then, cut_one, cut_second}
 use Rattle.pth_end.proofs.Sweeping.{mutexes_cut, mutexes_lead, locks_cut, locks_lead}

@@ -2,7 +2,7 @@ use Rattle.std.proofs.Common.{◌∙◌, Err, Option, ℕ, false, not, Ok, ap, r
 use Rattle.pth_base.specs.declared.errno.Errno.TheVariants.{EBUSY, EINVAL}
 use Rattle.pth_cond.specs.Conditions.{ConditionTable, is_initialised}
 use Rattle.pth_lock.specs.Mutexes.{mutex_release_answer}
-use Rattle.pth_model.specs.Resources.{Store}
+use Rattle.pth_model.specs.Store.{Store}
 use Rattle.pth_model.specs.RingWaits.{extra_ring}
 use Rattle.pth_world.proofs.Frames.{frame_then}
 use Rattle.pth_world.specs.Frame.{Frame}

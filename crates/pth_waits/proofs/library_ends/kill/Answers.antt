@@ -1,7 +1,8 @@
 use Rattle.std.proofs.Common.{◌≡◌, ◌==◌, true, false, refl, ap, sym, ◌∙◌, arith, rules}
 use Rattle.pth_base.specs.declared.errno.Errno.TheVariants.{EPERM}
 use Rattle.pth_port.specs.Ports.{names_of}
-use Rattle.pth_model.specs.Resources.{Store, store_of_only}
+use Rattle.pth_model.specs.Kill.{store_of_only}
+use Rattle.pth_model.specs.Store.{Store}
 use Rattle.pth_model.specs.State.{main}
 use Rattle.pth_world.proofs.Frames.{still_frame}
 use Rattle.pth_world.specs.Numbering.{Thread, Object, Event, Port, no_numbers}

@@ -3,7 +3,7 @@ use Rattle.pth_port.specs.Mail.{Mail, is_port, messages_at}
 use Rattle.pth_port.specs.Ports.{mail_of}
 use Rattle.pth_model.specs.Changes.{is_empty}
 use Rattle.pth_model.specs.Looks.{found_by}
-use Rattle.pth_model.specs.Resources.{Store}
+use Rattle.pth_model.specs.Store.{Store}
 use Rattle.pth_waits.proofs.Messages.{pending_found, refused_found}
 use Rattle.pth_waits.proofs.looks.found_message.Goals as goal
 

@@ -1,5 +1,5 @@
 use Rattle.pth_world.specs.Store.{store_of}
-use Rattle.pth_model.specs.Resources.{Store}
+use Rattle.pth_model.specs.Store.{Store}
 use Rattle.pth_lock.specs.RwLocks.{LockTables, lock_free_answer, may_enter}
 use Rattle.pth_lock.specs.Objects.{object_named}
 use Rattle.pth_base.specs.declared.errno.Errno.TheVariants.{EINVAL}

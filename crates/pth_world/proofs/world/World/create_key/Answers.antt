@@ -2,7 +2,7 @@ use Rattle.std.proofs.Common.{◌≡◌, ◌<◌, ◌∙◌, ℕ, Option, Some, 
 use Rattle.pth_base.specs.declared.errno.Errno.{Errno}
 use Rattle.pth_base.specs.declared.ids.HandlerId.{HandlerId}
 use Rattle.pth_threads.specs.Threads.{ThreadsOf}
-use Rattle.pth_model.specs.Resources.{Store, with_keys}
+use Rattle.pth_model.specs.Store.{Store, with_keys}
 use Rattle.pth_lock.specs.Mutexes.{MutexTable, mutexes_of}
 use Rattle.pth_lock.specs.RwLocks.{LockTables, tables_of as locks_of}
 use Rattle.pth_port.specs.Ports.{PortsOf}

@@ -6,7 +6,7 @@ use Rattle.pth_lock.specs.Mutexes.{mutexes_of}
 use Rattle.pth_lock.specs.RwLocks.{tables_of as locks_of}
 use Rattle.pth_store.specs.Cleanups.{stacks_of}
 use Rattle.pth_store.specs.Keys.{KeysOf, Tables, tables_of, key_named}
-use Rattle.pth_model.specs.Resources.{Store}
+use Rattle.pth_model.specs.Store.{Store}
 use Rattle.pth_world.specs.Store.{name_limit, store_of, stored_by, HasNothing}
 use Rattle.pth_world.proofs.Stores.{named_low, delete_answer_is, deleted_is, nothing_under, stored_keeps, either}
 use Rattle.pth_world.proofs.Events.{on_ok}

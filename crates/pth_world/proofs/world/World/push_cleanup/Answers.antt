@@ -8,7 +8,7 @@ use Rattle.pth_store.specs.Cleanups.{PushedHandler, Stacks, stacks_of}
 use Rattle.pth_store.specs.Keys.{tables_of}
 use Rattle.pth_world.specs.Store.{name_limit, store_of, stored_by, HasNothing}
 use Rattle.pth_world.proofs.Stores.{alive_apart, alive_known, push_answer_is, cleanups_put, nothing_pushed, stored_keeps, either}
-use Rattle.pth_model.specs.Resources.{Store}
+use Rattle.pth_model.specs.Store.{Store}
 use Rattle.pth_store.specs.Storing.{AnswersWithMemory}
 use Rattle.pth_world.proofs.Events.{on_ok}
 use Rattle.pth_world.proofs.world.World.push_cleanup.Goals as goal

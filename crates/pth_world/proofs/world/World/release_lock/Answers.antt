@@ -7,7 +7,7 @@ use Rattle.pth_lock.specs.Mutexes.{mutexes_of}
 use Rattle.pth_lock.specs.RwLocks.{LockTables, LocksOf, tables_of as locks_of}
 use Rattle.pth_store.specs.Cleanups.{stacks_of}
 use Rattle.pth_store.specs.Keys.{tables_of}
-use Rattle.pth_model.specs.Resources.{Store}
+use Rattle.pth_model.specs.Store.{Store}
 use Rattle.pth_model.proofs.Nothing.{no_lock_released}
 use Rattle.pth_world.specs.Store.{name_limit, store_of, stored_by, HasNothing}
 use Rattle.pth_world.proofs.Events.{on_ok}

@@ -8,7 +8,7 @@ use Rattle.pth_lock.specs.Mutexes.{MutexTable, mutexes_of}
 use Rattle.pth_lock.specs.RwLocks.{tables_of as locks_of}
 use Rattle.pth_store.specs.Cleanups.{stacks_of}
 use Rattle.pth_store.specs.Keys.{tables_of}
-use Rattle.pth_model.specs.Resources.{Store}
+use Rattle.pth_model.specs.Store.{Store}
 use Rattle.pth_model.proofs.Nothing.{no_mutex_taken}
 use Rattle.pth_world.specs.Store.{name_limit, store_of, stored_by, HasNothing}
 use Rattle.pth_world.proofs.Events.{on_ok}
