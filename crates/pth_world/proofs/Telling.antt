@@ -9,6 +9,7 @@ use Rattle.pth_base.specs.declared.mark.Mark.{Mark}
 use Rattle.pth_base.specs.declared.mark.Mark.TheVariants.{Answered}
 use Rattle.pth_model.specs.Awaits.{is_await}
 use Rattle.pth_model.specs.Resources.{told, answer_told}
+use Rattle.pth_model.specs.Store.{Resources}
 use Rattle.pth_model.specs.State.{State}
 use Rattle.pth_model.specs.Transition.{tells}
 use Rattle.pth_world.specs.World.{WorldOf}
