@@ -1,10 +1,10 @@
 -- Verdicts that are carried out lead where calls lead: as they begin, and as they are tried again.
-use Rattle.std.proofs.Common.{◌≡◌, ◌∙◌, ℕ, nat_lt, Bool, true, false, Option, Some, None, List, [], ◌++◌, Result, Ok, Err, IfOk, refl, sym, ap, subst, arith}
+use Rattle.std.proofs.Common.{◌≡◌, ◌∙◌, ℕ, pos, nat_lt, Bool, true, false, Option, Some, None, List, [], ◌++◌, Result, Ok, Err, IfOk, refl, sym, ap, subst, arith}
 use Rattle.std.proofs.lemmas.Bool.Decides.{nat_tests}
 use Rattle.std.proofs.lemmas.Result.{IfOk-weaker}
 use Rattle.pth_base.specs.Cut.{IsCut}
 use Rattle.pth_base.specs.Program.{Functions}
-use Rattle.pth_base.specs.declared.answer.Answer.TheVariants.{Fail}
+use Rattle.pth_base.specs.declared.answer.Answer.TheVariants.{Int, Fail}
 use Rattle.pth_base.specs.declared.call.Call.{Call}
 use Rattle.pth_base.specs.declared.call.Call.TheVariants as call
 use Rattle.pth_base.specs.declared.errno.Errno.TheVariants.{EINTR}
@@ -25,7 +25,6 @@ use Rattle.pth_model.specs.Row.{Attempt, effect_of, refuses, unless_refused}
 use Rattle.pth_model.specs.Rows.{row_of}
 use Rattle.pth_model.specs.State.{State}
 use Rattle.pth_model.specs.Transition.{Last, Piece, Transition, Went, silent, tid, ◌and_finally◌}
-use Rattle.pth_model.specs.Verdict.{refused, says}
 use Rattle.pth_numbered.specs.Clauses.{◌when◌otherwise◌}
 use Rattle.pth_world.proofs.Frames.{frame_then}
 use Rattle.pth_world.proofs.Telling.{quiet-refused}
@@ -128,7 +127,7 @@ module _ {P S H : Type 0} where
     stands a u ready = once_stands v u t c other ready
 
     counted : (a : Awaits) (e : Piece P S H) (s : State P S H) (some : Bool) → nat_lt 0 (written_in a) ≡ some → MayAwaitAs t c a → (e s).marks ≡ [] → IsReady v t c None (Blocks a) (e s).state → (some ≡ false → e s ≡ silent s)
-        → Comes true (says (written_in a) when some otherwise refused EINTR) (record { verdict = Blocks a; effect = e }) s
+        → Comes true (Says (Int (pos (written_in a)) when some otherwise Fail EINTR)) (record { verdict = Blocks a; effect = e }) s
     unfolding claims
     counted a e s true is may none ready idle = record {
       verdict = rw is refl;
@@ -175,12 +174,8 @@ module _ {P S H : Type 0} where
     again_may false = tries.attempts.may
     again_may true = by_x x
       where
-        counts_may : (some : Bool) (n : ℕ) → MayComeTo t b.call (says n when some otherwise refused EINTR)
-        counts_may true n = tt
-        counts_may false n = tt
-
         by_x : (y : Verdict) → MayComeTo t b.call (interrupted y)
-        by_x (Blocks a) = counts_may (nat_lt 0 (written_in a)) (written_in a)
+        by_x (Blocks a) = tt
         by_x (Says a) = tt
         by_x (Yields a) = tt
         by_x (Ends n) = tt

@@ -175,7 +175,7 @@ none_marked s u [] none = by_seat (is_at u (record { seat = s; mark = Unmarked }
     by_seat false = refl
 none_marked s u (t ∷ ts) none = by_seat (is_at u t) (none_marked s u ts) none
   where
-    by_seat : (b : Bool) → (is_marked_at (mark_at u ts) ≡ false → is_marked_at (mark_at u (with_seat s ts)) ≡ false) → is_marked_at (if b then Some t.notice else mark_at u ts) ≡ false → is_marked_at (if b then Some t.notice else mark_at u (with_seat s ts)) ≡ false
+    by_seat : (b : Bool) → (is_marked_at (mark_at u ts) ≡ false → is_marked_at (mark_at u (with_seat s ts)) ≡ false) → is_marked_at (if b then Some t.mark else mark_at u ts) ≡ false → is_marked_at (if b then Some t.mark else mark_at u (with_seat s ts)) ≡ false
     by_seat true rest h = h
     by_seat false rest h = rest h
 
