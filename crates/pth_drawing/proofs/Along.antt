@@ -17,8 +17,10 @@ use Rattle.pth_transcript.specs.declared.reader.Part.{Part}
 use Rattle.pth_transcript.specs.declared.reader.Part.TheVariants as part
 use Rattle.pth_transcript.specs.declared.told.Told.{Told}
 use Rattle.pth_drawing.specs.Draw.{IsMade, StopsAt}
+use Rattle.pth_drawing.specs.Ends.{end_of}
 use Rattle.pth_drawing.specs.Follow.{Draws}
 use Rattle.pth_drawing.specs.Taken.{HasDrawn}
+use Rattle.pth_drawing.specs.declared.chart.End.{End}
 use Rattle.pth_drawing.specs.declared.drawing.Drawing.{Drawing}
 
 -- the marks of lines that were taken are drawn
@@ -60,9 +62,9 @@ module _ (from turns : ℕ) (a b c : Ahead) (n m : ℕ) where
       }
 
   -- the line of the ending is taken behind the marks
-  pub ends : (d : Drawing) (p : Part) (e : Ending) → IsAlong d from turns a b n → Takes b c (part_line p) → p ≡ part.Ending e → IsToldPart p → m ≡ n + 1
-      → m < 2 ^ 64 → HasDrawn d from turns a c m
-  ends d p e along takes is tells more few =
+  pub ends : (d : Drawing) (end : End) (p : Part) (e : Ending) → end ≡ end_of e → IsAlong d from turns a b n → Takes b c (part_line p) → p ≡ part.Ending e → IsToldPart p → m ≡ n + 1
+      → m < 2 ^ 64 → HasDrawn d end from turns a c m
+  ends d end p e same along takes is tells more few =
       let line = subst (λ (q : Part). Takes b c (part_line q)) is takes in record {
         told = along.told;
         ending = e;
@@ -70,6 +72,7 @@ module _ (from turns : ℕ) (a b c : Ahead) (n m : ℕ) where
         tells = along.tells;
         tells_ending = subst IsToldPart is tells;
         draws = along.draws;
+        is_end = same;
         count = let so_far = along.count in omega arith;
         few = few;
       }
@@ -99,8 +102,9 @@ module _ (d : Drawing) (from turns : ℕ) (content : Option (List ℕ)) (c : Ahe
   stops fault.Words along comes = absurd comes
   stops fault.WriteFault along comes = absurd comes
 
+module _ (d : Drawing) (last : End) (from turns : ℕ) (content : Option (List ℕ)) (c : Ahead) (n : ℕ) (end : Ahead) where
   -- the text begins with what was drawn, and with the line of the ending
-  with_ending : (drawn : HasDrawn d from turns (ahead [] content) c n) (bytes rest : List ℕ)
+  with_ending : (drawn : HasDrawn d last from turns (ahead [] content) c n) (bytes rest : List ℕ)
       → bytes ≡ (told_lines drawn.told ++ ending_line drawn.ending) ++ rest → BeginsWith bytes drawn.told (part.Ending drawn.ending) rest
   with_ending drawn bytes rest is =
       let many = drawn.count in
@@ -116,7 +120,7 @@ module _ (d : Drawing) (from turns : ℕ) (content : Option (List ℕ)) (c : Ahe
       }
 
   -- something stands behind the line of the ending
-  pub stops_behind : (f : Fault) → HasDrawn d from turns (ahead [] content) c n → ComesTo n (HasMore c end) f → StopsAt content f
+  pub stops_behind : (f : Fault) → HasDrawn d last from turns (ahead [] content) c n → ComesTo n (HasMore c end) f → StopsAt content f
   stops_behind (fault.Input line why) drawn comes =
       let b = more content c end (told_lines drawn.told ++ ending_line drawn.ending) drawn.takes comes.2 in (
         record {
@@ -141,8 +145,8 @@ module _ (d : Drawing) (from turns : ℕ) (content : Option (List ℕ)) (c : Ahe
   stops_behind fault.WriteFault drawn comes = absurd comes
 
   -- nothing comes behind it, so the content is a transcript, whose marks were drawn
-  pub made : {T : Type 0} (Is : List MarkOf → T → Type 0) (x : T) → HasDrawn d from turns (ahead [] content) c n → IsOver c end
-      → ((marks : List MarkOf) → Draws d from turns marks → Is marks x) → IsMade Is content x
+  pub made : {T : Type 0} (Is : List MarkOf → Ending → T → Type 0) (x : T) → HasDrawn d last from turns (ahead [] content) c n → IsOver c end
+      → ((marks : List MarkOf) (e : Ending) → Draws d from turns marks → last ≡ end_of e → Is marks e x) → IsMade Is content x
   made Is x drawn over is =
       let all = whole content c end (told_lines drawn.told ++ ending_line drawn.ending) drawn.takes over in record {
         bytes = all.0;
@@ -150,5 +154,5 @@ module _ (d : Drawing) (from turns : ℕ) (content : Option (List ℕ)) (c : Ahe
         told = drawn.told;
         ending = drawn.ending;
         transcript = with_ending drawn all.0 [] (all.2 ∙ sym (append-nil (told_lines drawn.told ++ ending_line drawn.ending)));
-        made = is (marks_of drawn.told) drawn.draws;
+        made = is (marks_of drawn.told) drawn.ending drawn.draws drawn.is_end;
       }

@@ -1,12 +1,13 @@
 -- A chart lies within its columns, and it has no more of them than were asked for.
-use Rattle.std.proofs.Common.{◌≡◌, ◌&&◌, ◌==◌, ◌+◌, ◌-◌, ◌≤◌, ◌<◌, ℕ, Bool, true, false, List, [], ◌∷◌, ◌++◌, All, Option, Some, None, IfSome, arith, refl, drop, if◌then◌else◌, length, slice_get, suc, length-take}
+use Rattle.std.proofs.Common.{◌≡◌, ◌&&◌, ◌==◌, ◌+◌, ◌-◌, ◌≤◌, ◌<◌, ℕ, Bool, true, false, List, [], ◌∷◌, ◌++◌, All, Option, Some, None, IfSome, arith, refl, drop, if◌then◌else◌, length, slice_get, suc, length-append, length-take}
 use Rattle.std.proofs.lemmas.Bool.{eqb-true}
-use Rattle.std.proofs.lemmas.List.{length-map}
+use Rattle.std.proofs.lemmas.List.{length-map, length_push}
 use Rattle.std.proofs.lemmas.List.Elements.{All-cons, All-get_or, All-map, All-nil, All-weaker}
 use Rattle.pth_base.specs.declared.mark.Mark.{Mark}
-use Rattle.pth_drawing.specs.Bounds.{IsLaneWithin, IsStretchWithin, IsWithinColumns, most_columns}
-use Rattle.pth_drawing.specs.Drawing.{chart, columns_of, ends_in, is_canceled_in, is_same, lane_of, moment_at, moments_from, moved_in, places, places_from, row_of, stretches_from, with_column}
-use Rattle.pth_drawing.specs.States.{Turn, shown_in, turns_of}
+use Rattle.pth_drawing.specs.Bounds.{IsLaneWithin, IsStretchWithin, IsWithinColumns, most_columns, most_turns}
+use Rattle.pth_drawing.specs.Drawing.{chart, columns_of, ends_in, is_canceled_in, is_cut, is_same, lane_of, moment_at, moments_from, moved_in, places, places_from, row_of, stretches_from, whole_row, with_column, with_end}
+use Rattle.pth_drawing.specs.States.{Turn, shown_after, shown_in, turns_of}
+use Rattle.pth_drawing.specs.declared.chart.End.{End}
 use Rattle.pth_drawing.specs.declared.chart.Moment.{Moment}
 use Rattle.pth_drawing.specs.declared.chart.Shown.{Shown}
 use Rattle.pth_drawing.specs.declared.chart.Stretch.{Stretch}
@@ -72,19 +73,39 @@ first_below : (xs : List ℕ) (n : ℕ) → All (λ (p : ℕ). p < n) xs → IfS
 first_below [] n h = tt
 first_below (x ∷ xs) n h = h 0 x (omega arith)
 
-lane_lies : (columns : List Turn) (t : ℕ) → IsLaneWithin (length columns) (lane_of columns t)
-lane_lies columns t = record {
-  stretches = All-weaker (Lies 0 (length columns)) (IsStretchWithin (length columns)) (λ s h. h.before) _
-      (stretches_lie 0 (length columns) (row_of t columns) (let e = length-map columns (shown_in t) in omega arith));
-  canceled = places_lie (is_canceled_in t) 0 (length columns) columns (omega arith);
-  ended = first_below (places (ends_in t) columns) (length columns) (places_lie (ends_in t) 0 (length columns) columns (omega arith));
-}
+-- the end is one column more, or none
+end_more : (cut : Bool) (n : ℕ) → (n ≤ with_end cut n) × (with_end cut n ≤ n + 1)
+end_more true n = (omega arith, omega arith)
+end_more false n = (omega arith, omega arith)
 
-pub chart_within : (from turns : ℕ) (marks : List Mark) → turns ≤ most_columns → IsWithinColumns (chart from turns marks)
+length_row : (cut : Bool) (marks : List Mark) (columns : List Turn) (t : ℕ) → length (whole_row cut marks columns t) ≡ with_end cut (length columns)
+length_row true marks columns t = let e = length-map columns (shown_in t) in omega (arith, length-append (row_of t columns) [])
+length_row false marks columns t = let e = length-map columns (shown_in t) in omega (arith, length_push (row_of t columns) (shown_after t marks))
+
+below_end : (cut : Bool) (n : ℕ) (xs : List ℕ) → All (λ (p : ℕ). p < n) xs → All (λ (p : ℕ). p < with_end cut n) xs
+below_end cut n xs h = All-weaker (λ (p : ℕ). p < n) (λ (p : ℕ). p < with_end cut n) (λ p low. omega (arith, (end_more cut n).0)) xs h
+
+lane_lies : (cut : Bool) (marks : List Mark) (columns : List Turn) (t : ℕ) → IsLaneWithin (with_end cut (length columns)) (lane_of cut marks columns t)
+lane_lies cut marks columns t =
+    let n : ℕ = with_end cut (length columns) in record {
+      stretches = All-weaker (Lies 0 n) (IsStretchWithin n) (λ s h. h.before) _
+          (stretches_lie 0 n (whole_row cut marks columns t) (omega (arith, length_row cut marks columns t)));
+      canceled = below_end cut (length columns) _ (places_lie (is_canceled_in t) 0 (length columns) columns (omega arith));
+      ended = first_below (places (ends_in t) columns) n (below_end cut (length columns) _ (places_lie (ends_in t) 0 (length columns) columns (omega arith)));
+    }
+
+pub few_columns : (from turns : ℕ) (marks : List Mark) → turns ≤ most_turns → length (columns_of from turns marks) ≤ most_turns
+few_columns from turns marks few = let short = length-take turns (drop (from - 1) (turns_of marks)) in omega arith
+
+pub chart_within : (from turns : ℕ) (end : End) (marks : List Mark) → turns ≤ most_turns → IsWithinColumns (chart from turns end marks)
 unfolding chart
-chart_within from turns marks few =
-    let columns : List Turn = columns_of from turns marks in record {
-      columns = let short = length-take turns (drop (from - 1) (turns_of marks)) in omega arith;
-      lanes = All-map (IsLaneWithin (length columns)) (lane_of columns) _ (λ k d low. lane_lies columns _);
-      moments = moments_lie 0 (length columns) columns (omega arith);
+chart_within from turns end marks few =
+    let columns : List Turn = columns_of from turns marks in
+    let cut : Bool = is_cut from turns marks in
+    let more = end_more cut (length columns) in
+    record {
+      columns = omega (arith, more.1, few_columns from turns marks few);
+      lanes = All-map (IsLaneWithin (with_end cut (length columns))) (lane_of cut marks columns) _ (λ k d low. lane_lies cut marks columns _);
+      moments = All-weaker (λ (m : Moment). m.column < length columns) (λ (m : Moment). m.column < with_end cut (length columns)) (λ m low. omega (arith, more.0)) _
+          (moments_lie 0 (length columns) columns (omega arith));
     }

@@ -1,5 +1,5 @@
 -- A thread that is drawn was dispatched or answered to a spawn, or it is main.
-use Rattle.std.proofs.Common.{◌≡◌, ◌∙◌, ℕ, zero, suc, ◌-◌, ◌<◌, ◌≤◌, ◌==◌, not, pos, Bool, true, false, if◌then◌else◌, List, [], ◌∷◌, ◌++◌, take, drop, fold, Option, Some, None, is_some, refl, sym, ap, subst, arith}
+use Rattle.std.proofs.Common.{◌≡◌, ◌∙◌, ℕ, zero, suc, ◌-◌, ◌<◌, ◌≤◌, ◌==◌, ◌||◌, not, pos, Bool, true, false, if◌then◌else◌, List, [], ◌∷◌, ◌++◌, take, drop, fold, Option, Some, None, is_some, refl, sym, ap, subst, arith}
 use Rattle.std.specs.List.{list_any}
 use Rattle.std.proofs.lemmas.Bool.{or_parts, or_from}
 use Rattle.std.proofs.lemmas.List.{append_assoc}
@@ -10,8 +10,9 @@ use Rattle.pth_base.specs.declared.answer.Answer.TheVariants.{Int}
 use Rattle.pth_base.specs.declared.call.Call.TheVariants as call
 use Rattle.pth_base.specs.declared.mark.Mark.{Mark}
 use Rattle.pth_base.specs.declared.mark.Mark.TheVariants as mark
-use Rattle.pth_drawing.specs.Drawing.{columns_of, greatest_after, greatest_of, is_drawn}
-use Rattle.pth_drawing.specs.States.{dispatched, turn_begun, turns_after, turns_of, shown_in, shown_as, has_ended, is_waiting, up_to_dispatch, Running, Over, Absent, Waiting, Ready}
+use Rattle.pth_drawing.specs.declared.chart.Shown.{Shown}
+use Rattle.pth_drawing.specs.Drawing.{columns_of, greatest_after, greatest_of, is_drawn, row_of}
+use Rattle.pth_drawing.specs.States.{Turn, dispatched, turn_begun, turns_after, turns_of, shown_in, shown_as, shown_after, has_ended, is_waiting, up_to_dispatch, Running, Over, Absent, Waiting, Ready}
 use Rattle.pth_transcript.specs.Threads.{is_spawn_of, is_there}
 
 -- ---- the greatest number
@@ -85,7 +86,29 @@ none_dropped test zero xs none = none
 none_dropped test (suc n) [] none = refl
 none_dropped test (suc n) (x ∷ xs) none = none_dropped test n xs (or_parts (test x) (list_any test xs) none).1
 
-pub undrawn_above : (from turns : ℕ) (marks : List Mark) (t : ℕ) → greatest_of marks < t → is_drawn (columns_of from turns marks) t ≡ false
-undrawn_above from turns marks t low =
+columns_unseen : (from turns : ℕ) (marks : List Mark) (t : ℕ) → greatest_of marks < t → list_any (λ c. is_some (shown_in t c)) (columns_of from turns marks) ≡ false
+columns_unseen from turns marks t low =
     none_taken (λ c. is_some (shown_in t c)) turns (drop (from - 1) (turns_of marks))
     (none_dropped (λ c. is_some (shown_in t c)) (from - 1) (turns_of marks) (turns_unseen t [] marks low))
+
+any_of_row : (t : ℕ) (columns : List Turn) → list_any is_some (row_of t columns) ≡ list_any (λ c. is_some (shown_in t c)) columns
+any_of_row t [] = refl
+any_of_row t (c ∷ cs) = ap (λ b. is_some (shown_in t c) || b) (any_of_row t cs)
+
+-- ---- the end
+
+unseen_after : (t : ℕ) (marks : List Mark) → greatest_of marks < t → is_some (shown_after t marks) ≡ false
+unseen_after t marks low =
+    ap (λ b. is_some (shown_as (if has_ended t marks then Over else (if not b then Absent else (if is_waiting t marks then Waiting else Ready))))) (not_there t marks low)
+    ∙ absent (has_ended t marks) (is_waiting t marks)
+
+end_unseen : (cut : Bool) (t : ℕ) (marks : List Mark) → greatest_of marks < t → list_any is_some (if cut then [] else shown_after t marks ∷ []) ≡ false
+end_unseen true t marks low = refl
+end_unseen false t marks low = or_from (is_some (shown_after t marks)) false (unseen_after t marks low) refl
+
+pub undrawn_above : (cut : Bool) (from turns : ℕ) (marks : List Mark) (t : ℕ) → greatest_of marks < t → is_drawn cut marks (columns_of from turns marks) t ≡ false
+undrawn_above cut from turns marks t low =
+    let columns = columns_of from turns marks in
+    let end : List (Option Shown) = if cut then [] else shown_after t marks ∷ [] in
+    list_any-append is_some (row_of t columns) end
+    ∙ or_from (list_any is_some (row_of t columns)) (list_any is_some end) (any_of_row t columns ∙ columns_unseen from turns marks t low) (end_unseen cut t marks low)

@@ -15,7 +15,7 @@ use Rattle.pth_drawing.specs.declared.thread_event.Event.TheVariants as event
 use Rattle.pth_drawing.specs.declared.thread_event.ThreadEvent.{ThreadEvent}
 use Rattle.pth_drawing.specs.Drawing.{places, row_of, stretches_of, is_canceled_in, ends_in}
 use Rattle.pth_drawing.specs.Follow.{Knows, HasLane}
-use Rattle.pth_drawing.specs.States.{Turn, shown_in, shown_as, has_ended, is_waiting, Running, Over, Absent, Waiting, Ready}
+use Rattle.pth_drawing.specs.States.{Turn, shown_in, shown_as, shown_after, has_ended, is_waiting, Running, Over, Absent, Waiting, Ready}
 use Rattle.pth_transcript.specs.Threads.{is_there}
 use Rattle.pth_drawing.specs.Tracks.{TrackSeen, thread_event_of, after, last_of, with_place, first_of, settled, shown_idle, up_to, with_columns, run}
 use Rattle.pth_drawing.proofs.DrawnTurns.{length_heard}
@@ -90,21 +90,26 @@ idle_shown false true false = refl
 idle_shown false false true = refl
 idle_shown false false false = refl
 
+-- after marks a thread is drawn by how it stands
+pub shown_of_known : (t : ℕ) (marks : List Mark) (x : TrackSeen) → Knows t marks x → shown_after t marks ≡ shown_idle x.is_there x.has_ended x.is_waiting
+shown_of_known t marks x k =
+    idle_shown (is_there t marks) (has_ended t marks) (is_waiting t marks)
+    ∙ ap (λ b. shown_idle b (has_ended t marks) (is_waiting t marks)) (sym k.is_there)
+    ∙ ap (λ b. shown_idle x.is_there b (is_waiting t marks)) (sym k.has_ended)
+    ∙ ap (λ b. shown_idle x.is_there x.has_ended b) (sym k.is_waiting)
+
 -- while a thread does not run it is drawn by how it stands
 shown_of_idle : (t : ℕ) (marks during : List Mark) (thread : ℕ) (x : TrackSeen) → Knows t marks x → (thread == t) ≡ false
     → shown_in t (record { before = marks; thread = thread; during = during }) ≡ shown_idle x.is_there x.has_ended x.is_waiting
 shown_of_idle t marks during thread x k other =
     ap (λ b. shown_as (if b then Running else (if has_ended t marks then Over else (if not (is_there t marks) then Absent else (if is_waiting t marks then Waiting else Ready))))) other
-    ∙ idle_shown (is_there t marks) (has_ended t marks) (is_waiting t marks)
-    ∙ ap (λ b. shown_idle b (has_ended t marks) (is_waiting t marks)) (sym k.is_there)
-    ∙ ap (λ b. shown_idle x.is_there b (is_waiting t marks)) (sym k.has_ended)
-    ∙ ap (λ b. shown_idle x.is_there x.has_ended b) (sym k.is_waiting)
+    ∙ shown_of_known t marks x k
 
 shown_running : (t : ℕ) (marks during : List Mark) (thread : ℕ) → (thread == t) ≡ true → shown_in t (record { before = marks; thread = thread; during = during }) ≡ Some shown.Running
 shown_running t marks during thread same =
     ap (λ b. shown_as (if b then Running else (if has_ended t marks then Over else (if not (is_there t marks) then Absent else (if is_waiting t marks then Waiting else Ready))))) same
 
-settled_more : (o : Option Shown) (since n : ℕ) (xs : List Stretch) (row : List (Option Shown)) → since ≤ n → length row ≡ n → up_to o since n xs ≡ stretches_of row
+pub settled_more : (o : Option Shown) (since n : ℕ) (xs : List Stretch) (row : List (Option Shown)) → since ≤ n → length row ≡ n → up_to o since n xs ≡ stretches_of row
     → up_to o since (n + 1) xs ≡ stretches_of (row ++ o ∷ [])
 settled_more None since n xs row h len is = is ∙ sym (stretches_none 0 row)
 settled_more (Some s) since n xs row h len is = more ∙ sym (stretches_more 0 n row s (omega arith))

@@ -1,4 +1,5 @@
 pub mod Along
+pub mod AtEnd
 pub mod Charted
 pub mod Columns
 pub mod DrawnThreads

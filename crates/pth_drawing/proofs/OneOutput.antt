@@ -1,10 +1,19 @@
 -- Each text has one output.
-use Rattle.std.proofs.Common.{◌≡◌, ◌≢◌, ◌∙◌, ◌+◌, ℕ, List, [], Option, Some, None, length, ap, sym, refl, inl, inr}
+use Rattle.std.proofs.Common.{◌≡◌, ◌≢◌, ◌∙◌, ◌+◌, ℕ, ℤ, List, [], Option, Some, None, length, ap, sym, refl, inl, inr}
 use Rattle.pth_drawing.specs.Draw.{IsOutput, IsTextOutput, picture, picture_output, program}
 use Rattle.pth_drawing.specs.Words.{Asked}
 use Rattle.pth_filter.specs.Output.{IsOnly, Output, refusal}
 use Rattle.pth_print.specs.declared.fault_line.Fault.TheVariants as fault
 use Rattle.pth_print.specs.declared.fault_line.Flaw.TheVariants.{NoTranscript}
+use Rattle.pth_base.specs.declared.mark.Mark.{Mark}
+use Rattle.pth_drawing.specs.Drawing.{chart}
+use Rattle.pth_drawing.specs.Ends.{end_of}
+use Rattle.pth_drawing.specs.Picture.{picture_of}
+use Rattle.pth_drawing.specs.declared.chart.End.{End}
+use Rattle.pth_drawing.specs.declared.chart.End.TheVariants as end
+use Rattle.pth_transcript.specs.ReadableMarks.{TellsSame}
+use Rattle.pth_transcript.specs.declared.ending.Ending.{Ending}
+use Rattle.pth_transcript.specs.declared.ending.Ending.TheVariants as ending
 use Rattle.pth_transcript.specs.Transcript.{marks_of}
 use Rattle.pth_transcript.specs.Transcripts.{next_line}
 use Rattle.pth_transcript.specs.declared.told.Told.{Told}
@@ -14,13 +23,13 @@ use Rattle.pth_transcript.proofs.OneReading.{AtEnding, AtMark, Off, AreSame, Hol
 
 module _ (asked : Asked) (bytes : List ℕ) where
   -- an ending is the last line, or it is not
-  data AtEnd (told : List Told) (rest : List ℕ) (out : Output) : Type 0 where
-    Ends : rest ≡ [] → out ≡ picture_output (picture asked.from asked.turns (marks_of told)) → AtEnd told rest out
-    GoesPast : rest ≢ [] → out ≡ refusal program (fault.Input (next_line (length told + 1)) NoTranscript) → AtEnd told rest out
+  data AtEnd (told : List Told) (last : Ending) (rest : List ℕ) (out : Output) : Type 0 where
+    Ends : rest ≡ [] → out ≡ picture_output (picture asked.from asked.turns (marks_of told) last) → AtEnd told last rest out
+    GoesPast : rest ≢ [] → out ≡ refusal program (fault.Input (next_line (length told + 1)) NoTranscript) → AtEnd told last rest out
 
   abbrev IsSaid : {told : List Told} → Stop bytes told → Output → Type 0
   IsSaid (AtMark last rest with) out = ⊥
-  IsSaid {told} (AtEnding end rest with) out = AtEnd told rest out
+  IsSaid {told} (AtEnding last rest with) out = AtEnd told last rest out
   IsSaid {told} (Off rest begins off) out = out ≡ refusal program (fault.Input (next_line (length told)) NoTranscript)
 
   record Says (out : Output) : Type 0 where
@@ -29,7 +38,7 @@ module _ (asked : Asked) (bytes : List ℕ) where
     said : IsSaid stop out
 
   says : (out : Output) → IsTextOutput asked bytes out → Says out
-  says out (inl (told, ending, transcript, e)) = record { told = told; stop = AtEnding ending [] transcript; said = Ends refl e }
+  says out (inl (told, last, transcript, e)) = record { told = told; stop = AtEnding last [] transcript; said = Ends refl e }
   says out (inr (line, inl (told, off), e)) = record {
     told = told;
     stop = Off off.rest off.begins off.off;
@@ -37,7 +46,7 @@ module _ (asked : Asked) (bytes : List ℕ) where
   }
   says out (inr (line, inr (told, ending, goes_on), e)) = record {
     told = told;
-    stop = AtEnding ending goes_on.rest goes_on.begins;
+    stop = AtEnding last goes_on.rest goes_on.begins;
     said = GoesPast goes_on.more (e ∙ ap (λ n. refusal program (fault.Input n NoTranscript)) goes_on.counted);
   }
 
@@ -45,23 +54,38 @@ module _ (asked : Asked) (bytes : List ℕ) where
 
   holds : {told : List Told} (s : Stop bytes told) (out : Output) (other : List Told) → IsSaid s out → Holds bytes s (marks_of other)
   holds (AtMark last rest with) out other said = absurd said
-  holds (AtEnding end rest with) out other said = tt
+  holds (AtEnding last rest with) out other said = tt
   holds (Off rest begins off) out other said = tt
 
-  one_end : (a b : List Told) (rest behind : List ℕ) (x y : Output) → marks_of a ≡ marks_of b → rest ≡ behind → AtEnd a rest x → AtEnd b behind y → x ≡ y
-  one_end a b rest behind x y marks same (Ends e is) (Ends h too) = is ∙ ap (λ ms. picture_output (picture asked.from asked.turns ms)) marks ∙ sym too
-  one_end a b rest behind x y marks same (Ends e is) (GoesPast h too) = absurd (h (sym same ∙ e))
-  one_end a b rest behind x y marks same (GoesPast e is) (Ends h too) = absurd (e (same ∙ h))
-  one_end a b rest behind x y marks same (GoesPast e is) (GoesPast h too) =
+  -- endings that show the same are drawn as the same
+  same_end : (e h : Ending) → TellsSame e h → end_of e ≡ end_of h
+  same_end (ending.Ended v) (ending.Ended w) is = ap (λ (v : ℤ). end.Ended v) is
+  same_end ending.Killed ending.Killed is = refl
+  same_end (ending.Stalled live) (ending.Stalled others) is = refl
+  same_end (ending.StepLimit n) (ending.StepLimit k) is = ap (λ (n : ℕ). end.StepLimit n) is
+  same_end _ _ is = absurd is
+
+  same_picture : (a b : List Told) (e h : Ending) → marks_of a ≡ marks_of b → TellsSame e h
+      → picture asked.from asked.turns (marks_of a) e ≡ picture asked.from asked.turns (marks_of b) h
+  same_picture a b e h marks ends =
+      ap (λ (ms : List Mark). picture asked.from asked.turns ms e) marks
+      ∙ ap (λ (l : End). picture_of (chart asked.from asked.turns l (marks_of b))) (same_end e h ends)
+
+  one_end : (a b : List Told) (f g : Ending) (rest behind : List ℕ) (x y : Output) → marks_of a ≡ marks_of b → TellsSame f g → rest ≡ behind
+      → AtEnd a f rest x → AtEnd b g behind y → x ≡ y
+  one_end a b f g rest behind x y marks ends same (Ends e is) (Ends h too) = is ∙ ap picture_output (same_picture a b f g marks ends) ∙ sym too
+  one_end a b f g rest behind x y marks ends same (Ends e is) (GoesPast h too) = absurd (h (sym same ∙ e))
+  one_end a b f g rest behind x y marks ends same (GoesPast e is) (Ends h too) = absurd (e (same ∙ h))
+  one_end a b f g rest behind x y marks ends same (GoesPast e is) (GoesPast h too) =
       is ∙ ap (λ n. refusal program (fault.Input (next_line (n + 1)) NoTranscript)) (same_length a b marks) ∙ sym too
 
   same_said : {a b : List Told} (s : Stop bytes a) (t : Stop bytes b) (x y : Output) → marks_of a ≡ marks_of b → AreSame bytes s t → IsSaid s x → IsSaid t y → x ≡ y
   same_said (AtMark last rest with) t x y marks same p q = absurd p
-  same_said (AtEnding end rest with) (AtMark last behind and) x y marks same p q = absurd q
-  same_said {a} {b} (AtEnding end rest with) (AtEnding other behind and) x y marks same p q = one_end a b rest behind x y marks same.1 p q
-  same_said (AtEnding end rest with) (Off behind begins off) x y marks same p q = absurd same
+  same_said (AtEnding last rest with) (AtMark last behind and) x y marks same p q = absurd q
+  same_said {a} {b} (AtEnding last rest with) (AtEnding other behind and) x y marks same p q = one_end a b last other rest behind x y marks same.0 same.1 p q
+  same_said (AtEnding last rest with) (Off behind begins off) x y marks same p q = absurd same
   same_said (Off rest begins off) (AtMark last behind and) x y marks same p q = absurd q
-  same_said (Off rest begins off) (AtEnding end behind and) x y marks same p q = absurd same
+  same_said (Off rest begins off) (AtEnding last behind and) x y marks same p q = absurd same
   same_said {a} {b} (Off rest begins off) (Off behind also and) x y marks same p q =
       p ∙ ap (λ n. refusal program (fault.Input (next_line n) NoTranscript)) (same_length a b marks) ∙ sym q
 

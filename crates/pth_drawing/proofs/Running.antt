@@ -20,6 +20,7 @@ use Rattle.pth_streams.specs.Scene.{Scene, scene}
 use Rattle.pth_streams.specs.declared.sink.SinkErr.{SinkErr}
 use Rattle.pth_streams.specs.declared.sink.SinkErr.TheVariants as sink
 use Rattle.pth_transcript.specs.Reading.{CountsFault}
+use Rattle.pth_transcript.specs.declared.ending.Ending.{Ending}
 
 -- nothing was written
 pub none : (out : Received) → IsUnwritten out out
@@ -51,7 +52,7 @@ module _ (asked : Asked) (ins later : Inputs) (out after : Received) where
   undrawn fault.WriteFault stops counts none = absurd stops
   undrawn fault.OutOfMemory stops counts none = (counts, inl none)
 
-  module _ (text : List ℕ) (made : IsMade (λ (marks : List Mark) (t : List ℕ). t ≡ picture asked.from asked.turns marks) (content_under asked.file ins) text)
+  module _ (text : List ℕ) (made : IsMade (λ (marks : List Mark) (ending : Ending) (t : List ℕ). t ≡ picture asked.from asked.turns marks ending) (content_under asked.file ins) text)
       (stands : faults_under asked.file later ≡ faults_under asked.file ins) where
     is : HasOutput draw (Some asked) (scene ins out) (picture_output text)
     is = (made.bytes, made.held, only (Some asked) made.bytes (picture_output text) (inl (made.told, made.ending, made.transcript, ap picture_output made.made)))

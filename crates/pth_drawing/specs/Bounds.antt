@@ -4,9 +4,13 @@ use Rattle.std.specs.List.{All}
 use Rattle.pth_drawing.specs.Charts.{ChartSeen, LaneSeen}
 use Rattle.pth_drawing.specs.declared.chart.Stretch.{Stretch}
 
--- how many columns a chart has at most
+-- how many turns are drawn at most
+abbrev pub most_turns : ℕ
+most_turns = 2000
+
+-- how many columns a chart has at most: the turns, and the end
 abbrev pub most_columns : ℕ
-most_columns = 2000
+most_columns = 2001
 
 -- a stretch lies within so many columns
 abbrev pub IsStretchWithin : (columns : ℕ) → Stretch → Type 0

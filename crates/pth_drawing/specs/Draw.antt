@@ -13,12 +13,13 @@ use Rattle.pth_transcript.specs.Transcripts.{BreaksOff, GoesOn, IsTranscript}
 use Rattle.pth_transcript.specs.declared.ending.Ending.{Ending}
 use Rattle.pth_transcript.specs.declared.told.Told.{Told}
 use Rattle.pth_drawing.specs.Drawing.{chart}
+use Rattle.pth_drawing.specs.Ends.{end_of}
 use Rattle.pth_drawing.specs.Picture.{picture_of}
 use Rattle.pth_drawing.specs.Words.{Asked, asked_by}
 
 -- the picture of so many turns of a run, from one of them on
-abbrev pub picture : (from turns : ℕ) → List Mark → List ℕ
-picture from turns marks = picture_of (chart from turns marks)
+abbrev pub picture : (from turns : ℕ) → List Mark → Ending → List ℕ
+picture from turns marks ending = picture_of (chart from turns (end_of ending) marks)
 
 -- ---- the transcript
 
@@ -28,14 +29,14 @@ IsRefusedAt bytes n =
     ((told : List Told) × BreaksOff bytes told n)
     ⊎ ((told : List Told) × (ending : Ending) × GoesOn bytes told ending n)
 
--- a content is a transcript, and this was made of its marks
-pub record IsMade {T : Type 0} (Is : List Mark → T → Type 0) (content : Option (List ℕ)) (x : T) : Type 0 where
+-- a content is a transcript, and this was made of its marks and its ending
+pub record IsMade {T : Type 0} (Is : List Mark → Ending → T → Type 0) (content : Option (List ℕ)) (x : T) : Type 0 where
   pub bytes : List ℕ
   pub held : AreHeld content bytes
   pub told : List Told
   pub ending : Ending
   pub transcript : IsTranscript bytes told ending
-  pub made : Is (marks_of told) x
+  pub made : Is (marks_of told) ending x
 
 -- a content is refused at this line
 pub record HoldsRefused (content : Option (List ℕ)) (line : ℕ) : Type 0 where
@@ -52,7 +53,7 @@ StopsAt content fault.Words = ⊥
 StopsAt content fault.WriteFault = ⊥
 
 -- something was made of the transcript that a content is, or why not
-abbrev pub Makes : {T : Type 0} → (List Mark → T → Type 0) → (content : Option (List ℕ)) → Result T Fault → Type 0
+abbrev pub Makes : {T : Type 0} → (List Mark → Ending → T → Type 0) → (content : Option (List ℕ)) → Result T Fault → Type 0
 Makes Is content (Ok x) = IsMade Is content x
 Makes Is content (Err f) = StopsAt content f
 
@@ -70,7 +71,7 @@ picture_output text = record { text = text; fault = None; status = 0 }
 abbrev pub IsTextOutput : Asked → List ℕ → Output → Type 0
 IsTextOutput asked bytes out =
     ((told : List Told) × (ending : Ending) × IsTranscript bytes told ending
-    × (out ≡ picture_output (picture asked.from asked.turns (marks_of told))))
+    × (out ≡ picture_output (picture asked.from asked.turns (marks_of told) ending)))
     ⊎ ((line : ℕ) × IsRefusedAt bytes line × (out ≡ refusal program (fault.Input line NoTranscript)))
 
 -- the output for what the words ask for, if they are not refused, and the bytes that stand under the name that they give

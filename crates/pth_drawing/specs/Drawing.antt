@@ -1,23 +1,32 @@
--- The chart of a run, by its marks: a column for each turn, and a lane for each thread that is drawn in one.
-use Rattle.std.specs.Prelude.{ℕ, ◌+◌, ◌-◌, ◌==◌, ◌&&◌, max, pos, Bool, true, false, if◌then◌else◌, List, [], ◌∷◌, ◌++◌, fold, length, map, take, drop, slice_get, Option, Some, None, is_some}
+-- The chart of a run, by its marks: a column for each turn and one for the end, and a lane for each thread that is drawn in one.
+use Rattle.std.specs.Prelude.{ℕ, ◌+◌, ◌-◌, ◌==◌, ◌&&◌, nat_lt, max, pos, Bool, true, false, if◌then◌else◌, List, [], ◌∷◌, ◌++◌, fold, length, map, take, drop, slice_get, Option, Some, None, is_some}
 use Rattle.std.specs.List.{filter, list_any, range_with_len}
 use Rattle.pth_base.specs.declared.answer.Answer.TheVariants.{Int}
 use Rattle.pth_base.specs.declared.call.Call.TheVariants as call
 use Rattle.pth_base.specs.declared.mark.Mark.{Mark}
 use Rattle.pth_base.specs.declared.mark.Mark.TheVariants as mark
 use Rattle.pth_laws.specs.Marks.{is_end_of, is_cancellation_of}
+use Rattle.pth_drawing.specs.declared.chart.End.{End}
 use Rattle.pth_drawing.specs.declared.chart.Moment.{Moment}
 use Rattle.pth_drawing.specs.declared.chart.Shown.{Shown}
 use Rattle.pth_drawing.specs.declared.chart.Shown.TheVariants.{Running, Waiting, Ready}
 use Rattle.pth_drawing.specs.declared.chart.Stretch.{Stretch}
 use Rattle.pth_drawing.specs.Charts.{LaneSeen, ChartSeen}
-use Rattle.pth_drawing.specs.States.{Turn, turns_of, shown_in}
+use Rattle.pth_drawing.specs.States.{Turn, turns_of, shown_in, shown_after}
 
 -- ---- columns
 
 -- the turns that are drawn, a column each: so many from a turn on, which is counted from 1
 abbrev pub columns_of : (from turns : ℕ) → List Mark → List Turn
 columns_of from turns marks = take turns (drop (from - 1) (turns_of marks))
+
+-- turns follow the last of these, so that the end of the run is not drawn
+abbrev pub is_cut : (from turns : ℕ) → List Mark → Bool
+is_cut from turns marks = nat_lt (from - 1 + turns) (length (turns_of marks))
+
+-- so many columns, and one more for the end, unless the run is cut before it
+abbrev pub with_end : (cut : Bool) → ℕ → ℕ
+with_end cut n = if cut then n else n + 1
 
 -- the columns that pass a test, counted from i on
 unfoldable pub places_from : (Turn → Bool) → ℕ → List Turn → List ℕ
@@ -64,9 +73,13 @@ stretches_of row = stretches_from 0 row
 
 -- ---- lanes
 
--- as what t is drawn in each column
+-- as what t is drawn in each turn
 abbrev pub row_of : ℕ → List Turn → Row
 row_of t columns = map (shown_in t) columns
+
+-- and how it stands at the end, unless the run is cut before it
+abbrev pub whole_row : (cut : Bool) → List Mark → List Turn → ℕ → Row
+whole_row cut marks columns t = row_of t columns ++ (if cut then [] else shown_after t marks ∷ [])
 
 -- t is canceled in a turn, or ends in it
 abbrev pub is_canceled_in : ℕ → Turn → Bool
@@ -76,17 +89,17 @@ abbrev pub ends_in : ℕ → Turn → Bool
 ends_in t turn = list_any (is_end_of t) turn.during
 
 -- the lane of t
-abbrev pub lane_of : List Turn → ℕ → LaneSeen
-lane_of columns t = record {
+abbrev pub lane_of : (cut : Bool) → List Mark → List Turn → ℕ → LaneSeen
+lane_of cut marks columns t = record {
   thread = t;
-  stretches = stretches_of (row_of t columns);
+  stretches = stretches_of (whole_row cut marks columns t);
   canceled = places (is_canceled_in t) columns;
   ended = slice_get (places (ends_in t) columns) 0;
 }
 
 -- t is drawn in a column at least
-abbrev pub is_drawn : List Turn → ℕ → Bool
-is_drawn columns t = list_any (λ c. is_some (shown_in t c)) columns
+abbrev pub is_drawn : (cut : Bool) → List Mark → List Turn → ℕ → Bool
+is_drawn cut marks columns t = list_any is_some (whole_row cut marks columns t)
 
 -- the greatest number so far of a thread that is dispatched or that a spawn is answered, 1 at least
 abbrev pub greatest_after : ℕ → Mark → ℕ
@@ -99,8 +112,8 @@ abbrev pub greatest_of : List Mark → ℕ
 greatest_of marks = fold greatest_after 1 marks
 
 -- the lanes of the threads that are drawn, by rising number
-abbrev pub lanes_of : List Mark → List Turn → List LaneSeen
-lanes_of marks columns = map (lane_of columns) (filter (is_drawn columns) (range_with_len 0 (greatest_of marks + 1)))
+abbrev pub lanes_of : (cut : Bool) → List Mark → List Turn → List LaneSeen
+lanes_of cut marks columns = map (lane_of cut marks columns) (filter (is_drawn cut marks columns) (range_with_len 0 (greatest_of marks + 1)))
 
 -- ---- moments
 
@@ -126,13 +139,16 @@ moments_from i (c ∷ cs) = moment_at i (moved_in c.before) ++ moments_from (i +
 
 -- ---- the chart
 
-abbrev pub chart_with : List Mark → List Turn → ChartSeen
-chart_with marks columns = record {
-  columns = length columns;
-  lanes = lanes_of marks columns;
+abbrev pub chart_with : (from : ℕ) → (cut : Bool) → End → List Mark → List Turn → ChartSeen
+chart_with from cut end marks columns = record {
+  from = from;
+  columns = with_end cut (length columns);
+  is_cut = cut;
+  lanes = lanes_of cut marks columns;
   moments = moments_from 0 columns;
+  end = end;
 }
 
--- so many turns of a run, from one of them on
-unfoldable pub chart : (from turns : ℕ) → List Mark → ChartSeen
-chart from turns marks = chart_with marks (columns_of from turns marks)
+-- so many turns of a run, from one of them on, and its end unless it is cut before
+unfoldable pub chart : (from turns : ℕ) → End → List Mark → ChartSeen
+chart from turns end marks = chart_with from (is_cut from turns marks) end marks (columns_of from turns marks)

@@ -1,11 +1,12 @@
 -- Charts, computed by the definitions alone: main spawns a thread and joins it; the thread runs, is canceled and ends; time moves
--- before main runs again.
-use Rattle.std.specs.Prelude.{ℕ, pos, negsuc, List, [], ◌∷◌, Some, None}
+-- before main runs again, and joins the thread once more, for ever.
+use Rattle.std.specs.Prelude.{ℕ, pos, negsuc, true, false, List, [], ◌∷◌, Some, None}
 use Rattle.pth_base.specs.declared.answer.Answer.TheVariants.{Int}
 use Rattle.pth_base.specs.declared.call.Call.TheVariants.{Spawn, Join}
 use Rattle.pth_base.specs.declared.ids.Tid.{Tid}
 use Rattle.pth_base.specs.declared.mark.Mark.{Mark}
 use Rattle.pth_base.specs.declared.mark.Mark.TheVariants.{Dispatch, Answered, Waits, Canceled, Ended, Woke, Moved}
+use Rattle.pth_drawing.specs.declared.chart.End.TheVariants.{Stalled}
 use Rattle.pth_drawing.specs.declared.chart.Shown.TheVariants.{Running, Waiting}
 use Rattle.pth_drawing.specs.Charts.{ChartSeen}
 
@@ -23,12 +24,15 @@ its_marks =
     ∷ Woke (thread 1) (pos 0)
     ∷ Moved 50
     ∷ Dispatch 3 50 (thread 1) (pos 0) 0 6
+    ∷ Waits (thread 1) (Join (pos 2))
     ∷ []
 
--- three columns, in the second of which main waits
+-- three turns, in the second of which main waits, and the end, at which it waits again
 abbrev pub whole_chart : ChartSeen
 whole_chart = record {
-  columns = 3;
+  from = 1;
+  columns = 4;
+  is_cut = false;
   lanes =
       record {
         thread = 1;
@@ -36,6 +40,7 @@ whole_chart = record {
             record { shown = Running; first = 0; columns = 1 }
             ∷ record { shown = Waiting; first = 1; columns = 1 }
             ∷ record { shown = Running; first = 2; columns = 1 }
+            ∷ record { shown = Waiting; first = 3; columns = 1 }
             ∷ [];
         canceled = [];
         ended = None;
@@ -48,12 +53,15 @@ whole_chart = record {
       }
       ∷ [];
   moments = record { column = 2; at = 50 } ∷ [];
+  end = Stalled;
 }
 
--- its second turn alone
+-- its second turn alone, behind which it is cut
 abbrev pub second_column : ChartSeen
 second_column = record {
+  from = 2;
   columns = 1;
+  is_cut = true;
   lanes =
       record {
         thread = 1;
@@ -69,4 +77,5 @@ second_column = record {
       }
       ∷ [];
   moments = [];
+  end = Stalled;
 }

@@ -1,15 +1,16 @@
 -- What a drawing has of the marks so far.
-use Rattle.std.specs.Prelude.{◌∷◌, ◌≡◌, ℕ, ◌+◌, ◌-◌, ◌≤◌, ◌<◌, true, false, List, [], ◌++◌, length, slice_get, flat_map, Option, None}
+use Rattle.std.specs.Prelude.{◌∷◌, ◌≡◌, ℕ, ◌+◌, ◌-◌, ◌≤◌, ◌<◌, Bool, true, false, List, [], ◌++◌, length, slice_get, flat_map, Option, None}
 use Rattle.std.specs.Global.{Global}
 use Rattle.std.specs.List.{range_with_len}
 use Rattle.std.specs.declared.vec.Vec.{Vec}
 use Rattle.pth_base.specs.declared.mark.Mark.{Mark}
 use Rattle.pth_drawing.specs.declared.chart.Chart.{Chart}
+use Rattle.pth_drawing.specs.declared.chart.End.{End}
 use Rattle.pth_drawing.specs.declared.sheet.Sheet.{Sheet}
 use Rattle.pth_drawing.specs.declared.chart.Lane.{Lane}
 use Rattle.pth_drawing.specs.declared.drawing.Drawing.{Drawing}
 use Rattle.pth_drawing.specs.Charts.{LaneSeen, ChartSeen, chart_seen}
-use Rattle.pth_drawing.specs.Drawing.{columns_of, row_of, stretches_of, places, is_canceled_in, ends_in, moved_after, moved_in, moment_at, moments_from, chart}
+use Rattle.pth_drawing.specs.Drawing.{columns_of, row_of, stretches_of, places, is_canceled_in, ends_in, moved_after, moved_in, moment_at, moments_from, with_end, chart}
 use Rattle.pth_drawing.specs.States.{Turn, turns_of, dispatched, has_ended, is_waiting}
 use Rattle.pth_transcript.specs.Threads.{is_there}
 use Rattle.pth_drawing.specs.Tracks.{TrackSeen, track_in, ChangesAt, settled, settle, run, lane_if, seen_in}
@@ -49,16 +50,20 @@ AreBelow most columns track = (t : ℕ) → most ≤ t → lane_if t (settle col
 abbrev pub AreLanesOf : (ℕ → TrackSeen) → (columns : ℕ) → Vec Lane Global → Type 0
 AreLanesOf track columns lanes = (most : ℕ) → AreBelow most columns track → seen_in lanes ≡ lanes_below most columns track
 
-abbrev pub chart_below : (most : ℕ) → Sheet → ChartSeen
-chart_below most sheet = record {
-  columns = sheet.count;
-  lanes = lanes_below most sheet.count (track_in sheet.tracks.by_thread);
+abbrev pub chart_below : (from : ℕ) → (cut : Bool) → End → Sheet → (most : ℕ) → ChartSeen
+chart_below from cut end sheet most = record {
+  from = from;
+  columns = with_end cut sheet.count;
+  is_cut = cut;
+  lanes = lanes_below most (with_end cut sheet.count) (track_in sheet.tracks.by_thread);
   moments = sheet.moments.items;
+  end = end;
 }
 
 -- a chart is what is drawn, with the lanes of all threads
-abbrev pub IsChartOf : Sheet → Chart → Type 0
-IsChartOf sheet c = (most : ℕ) → AreBelow most sheet.count (track_in sheet.tracks.by_thread) → chart_seen c ≡ chart_below most sheet
+abbrev pub IsChartOf : (from : ℕ) → (cut : Bool) → End → Sheet → Chart → Type 0
+IsChartOf from cut end sheet c =
+    (most : ℕ) → AreBelow most (with_end cut sheet.count) (track_in sheet.tracks.by_thread) → chart_seen c ≡ chart_below from cut end sheet most
 
 -- ---- the drawing
 
@@ -87,6 +92,6 @@ pub record Draws (d : Drawing) (from turns : ℕ) (marks : List Mark) : Type 0 w
 abbrev pub GoesOn : Drawing → Mark → Drawing → Type 0
 GoesOn d m new = (from turns : ℕ) (marks : List Mark) → Draws d from turns marks → Draws new from turns (marks ++ m ∷ [])
 
--- whatever marks a drawing has, a chart is theirs
-abbrev pub Shows : Drawing → Chart → Type 0
-Shows d c = (from turns : ℕ) (marks : List Mark) → Draws d from turns marks → chart_seen c ≡ chart from turns marks
+-- whatever marks a drawing has from a turn on, a chart is theirs
+abbrev pub Shows : Drawing → (from : ℕ) → End → Chart → Type 0
+Shows d from end c = (turns : ℕ) (marks : List Mark) → Draws d from turns marks → chart_seen c ≡ chart from turns end marks

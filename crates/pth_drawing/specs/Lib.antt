@@ -2,6 +2,7 @@ pub mod Bounds
 pub mod Charts
 pub mod Draw
 pub mod Drawing
+pub mod Ends
 pub mod Example
 pub mod Follow
 pub mod Picture

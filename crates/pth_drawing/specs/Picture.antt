@@ -1,8 +1,11 @@
 -- The picture of a chart, as a text in SVG. Lengths are in pixels, and places are counted from the upper left corner.
-use Rattle.std.specs.Prelude.{◌+◌, ◌*◌, ℕ, List, [], ◌∷◌, ◌++◌, codes, decimal, flat_map, length, Option, Some, None}
+use Rattle.std.specs.Prelude.{◌+◌, ◌-◌, ◌*◌, ◌==◌, ℕ, if◌then◌else◌, List, [], ◌∷◌, ◌++◌, codes, decimal, flat_map, fold, length, max, Option, Some, None}
+use Rattle.std.specs.Fmt.{signed_decimal}
 use Rattle.std.specs.List.{concat}
 use Rattle.pth_drawing.specs.Charts.{ChartSeen, LaneSeen}
 use Rattle.pth_drawing.specs.Svg.{attribute}
+use Rattle.pth_drawing.specs.declared.chart.End.{End}
+use Rattle.pth_drawing.specs.declared.chart.End.TheVariants as end
 use Rattle.pth_drawing.specs.declared.chart.Moment.{Moment}
 use Rattle.pth_drawing.specs.declared.chart.Shown.{Shown}
 use Rattle.pth_drawing.specs.declared.chart.Shown.TheVariants as shown
@@ -14,27 +17,37 @@ left_of column = 60 + 12 * column
 
 -- ---- the head
 
--- how wide a picture of so many columns is, and how high one of so many lanes
+-- how wide a picture of so many columns is: as wide as the legend at least
 abbrev pub width_of : (columns : ℕ) → ℕ
-width_of columns = 72 + 12 * columns
+width_of columns = max 520 (72 + 12 * columns)
 
-abbrev pub height_of : (lanes : ℕ) → ℕ
-height_of lanes = 28 + 20 * lanes
-
-unfoldable pub opening_line : (columns lanes : ℕ) → List ℕ
-opening_line columns lanes = concat (codes "<svg xmlns=\"http://www.w3.org/2000/svg\""
-    ∷ attribute (codes "width") (width_of columns) ∷ attribute (codes "height") (height_of lanes) ∷ codes ">\n" ∷ [])
+-- a white ground
+unfoldable pub opening_line : (width height : ℕ) → List ℕ
+opening_line width height = concat (codes "<svg xmlns=\"http://www.w3.org/2000/svg\""
+    ∷ attribute (codes "width") width ∷ attribute (codes "height") height
+    ∷ codes " viewBox=\"0 0 " ∷ decimal width ∷ codes " " ∷ decimal height
+    ∷ codes "\">\n<rect width=\"100%\" height=\"100%\" fill=\"white\"/>\n" ∷ [])
 
 -- how text, stretches, crosses and bars look
 unfoldable pub style_line : List ℕ
-style_line = concat (codes "<style>text{font:10px monospace}"
+style_line = concat (codes "<style>text{font:10px monospace;fill:#111827}"
     ∷ codes ".running{fill:#2563eb}.waiting{fill:#f59e0b}.ready{fill:#9ca3af}"
     ∷ codes ".canceled{stroke:#dc2626;stroke-width:2}.ended{stroke:#111827;stroke-width:3}</style>\n" ∷ [])
 
--- a moment stands above its column
-unfoldable pub moment_line : Moment → List ℕ
-moment_line m = concat (codes "<text" ∷ attribute (codes "x") (left_of m.column) ∷ attribute (codes "y") 14
-    ∷ codes ">" ∷ decimal m.at ∷ codes "</text>\n" ∷ [])
+-- ---- the moments, upright above the first lane
+
+-- the greatest moment
+abbrev pub greatest_moment : List Moment → ℕ
+greatest_moment moments = fold (λ n m. max n m.at) 0 moments
+
+-- the upper edge of the first lane: below the longest moment, with six pixels for each digit
+abbrev pub top_of : List Moment → ℕ
+top_of moments = 14 + 6 * length (decimal (greatest_moment moments))
+
+-- a moment stands upright above its column
+unfoldable pub moment_line : (top : ℕ) → Moment → List ℕ
+moment_line top m = concat (codes "<text transform=\"translate(" ∷ decimal (left_of m.column + 10) ∷ codes " " ∷ decimal (top - 4)
+    ∷ codes ")rotate(-90)\">" ∷ decimal m.at ∷ codes "</text>\n" ∷ [])
 
 -- ---- a lane, whose upper edge is at `top`
 
@@ -84,13 +97,50 @@ unfoldable pub lane_lines : (top : ℕ) → LaneSeen → List ℕ
 lane_lines top lane = name_line top lane.thread ++ (flat_map (stretch_line top) lane.stretches
     ++ (flat_map (cross_line top) lane.canceled ++ end_lines top lane.ended))
 
--- ---- the whole
-
 -- lanes, each below the one before it, the first at `top`
 abbrev pub lanes_from : (top : ℕ) → List LaneSeen → List ℕ
 lanes_from top [] = []
 lanes_from top (lane ∷ lanes) = lane_lines top lane ++ lanes_from (top + 20) lanes
 
+-- ---- the foot, below the last lane, whose lower edge is at `bottom`
+
+-- the turn of the first column, if it is not the first turn
+abbrev pub from_words : (from : ℕ) → List ℕ
+from_words from = if from == 1 then [] else concat (codes "From turn " ∷ decimal from ∷ codes ". " ∷ [])
+
+-- where the picture is cut, if turns follow
+abbrev pub cut_words : ChartSeen → List ℕ
+cut_words chart = if chart.is_cut then concat (codes "Cut after " ∷ decimal chart.columns ∷ codes " turns. " ∷ []) else []
+
+-- how the run ended
+abbrev pub ending_words : End → List ℕ
+ending_words (end.Ended v) = codes "ended " ++ signed_decimal v
+ending_words end.Killed = codes "killed"
+ending_words end.Stalled = codes "stalled"
+ending_words (end.StepLimit n) = codes "step limit " ++ decimal n
+
+-- the caption says all of that
+unfoldable pub caption_line : (bottom : ℕ) → ChartSeen → List ℕ
+caption_line bottom chart = codes "<text x=\"4\"" ++ (attribute (codes "y") (bottom + 16) ++ (codes ">"
+    ++ (from_words chart.from ++ (cut_words chart ++ (codes "End of the run: " ++ (ending_words chart.end ++ codes "</text>\n"))))))
+
+-- the legend says what each sign means
+unfoldable pub legend_lines : (bottom : ℕ) → List ℕ
+legend_lines bottom = concat (codes "<g transform=\"translate(0 " ∷ decimal (bottom + 24) ∷ codes ")\">\n"
+    ∷ codes "<rect class=\"running\" x=\"4\" y=\"3\" width=\"12\" height=\"14\"/><text x=\"20\" y=\"14\">runs</text>\n"
+    ∷ codes "<rect class=\"waiting\" x=\"60\" y=\"3\" width=\"12\" height=\"14\"/><text x=\"76\" y=\"14\">waits</text>\n"
+    ∷ codes "<rect class=\"ready\" x=\"122\" y=\"9\" width=\"12\" height=\"2\"/><text x=\"138\" y=\"14\">ready or suspended</text>\n"
+    ∷ codes "<path class=\"canceled\" d=\"M262 6l8 8m0 -8l-8 8\"/><text x=\"276\" y=\"14\">canceled</text>\n"
+    ∷ codes "<line class=\"ended\" x1=\"341\" y1=\"3\" x2=\"341\" y2=\"17\"/><text x=\"348\" y=\"14\">ends</text>\n"
+    ∷ codes "<text x=\"388\" y=\"14\">upright: microseconds</text>\n</g>\n" ∷ [])
+
+-- ---- the whole
+
+-- the picture of a chart whose first lane is at `top`, and whose last one ends at `bottom`
+abbrev pub picture_between : (top bottom : ℕ) → ChartSeen → List ℕ
+picture_between top bottom chart = opening_line (width_of chart.columns) (bottom + 48) ++ (style_line
+    ++ (flat_map (moment_line top) chart.moments ++ (lanes_from top chart.lanes
+    ++ (caption_line bottom chart ++ (legend_lines bottom ++ codes "</svg>\n")))))
+
 unfoldable pub picture_of : ChartSeen → List ℕ
-picture_of chart = opening_line chart.columns (length chart.lanes) ++ (style_line
-    ++ (flat_map moment_line chart.moments ++ (lanes_from 20 chart.lanes ++ codes "</svg>\n")))
+picture_of chart = picture_between (top_of chart.moments) (top_of chart.moments + 20 * length chart.lanes) chart

@@ -66,14 +66,17 @@ pub data State : Type 0 where
   Waiting : State
   Ready : State
 
+-- as what t stands after marks, while it does not run
+abbrev pub state_after : ℕ → List Mark → State
+state_after t marks =
+    if has_ended t marks then Over else (
+    if not (is_there t marks) then Absent else (
+    if is_waiting t marks then Waiting else
+    Ready))
+
 -- as what t stands in a turn
 abbrev pub state_in : ℕ → Turn → State
-state_in t turn =
-    if turn.thread == t then Running else (
-    if has_ended t turn.before then Over else (
-    if not (is_there t turn.before) then Absent else (
-    if is_waiting t turn.before then Waiting else
-    Ready)))
+state_in t turn = if turn.thread == t then Running else state_after t turn.before
 
 -- as what a state is drawn: not at all if the thread is over or absent
 abbrev pub shown_as : State → Option Shown
@@ -86,3 +89,7 @@ shown_as Ready = Some shown.Ready
 -- as what t is drawn in a turn
 abbrev pub shown_in : ℕ → Turn → Option Shown
 shown_in t turn = shown_as (state_in t turn)
+
+-- as what t is drawn after the last of these marks
+abbrev pub shown_after : ℕ → List Mark → Option Shown
+shown_after t marks = shown_as (state_after t marks)

@@ -1,6 +1,9 @@
 -- What stretches are to the columns of a lane.
-use Rattle.std.specs.Prelude.{◌≡◌, ◌<◌, ◌≤◌, ℕ, ◌+◌, ◌&&◌, nat_lt, nat_le, Bool, List, [], ◌∷◌, map, Option, Some, None}
-use Rattle.std.specs.List.{filter}
+use Rattle.std.specs.Prelude.{◌≡◌, ◌<◌, ◌≤◌, ℕ, ◌+◌, ◌-◌, ◌&&◌, nat_lt, nat_le, Bool, List, [], ◌∷◌, map, Option, Some, None}
+use Rattle.std.specs.List.{All, filter}
+use Rattle.pth_base.specs.declared.mark.Mark.{Mark}
+use Rattle.pth_drawing.specs.Charts.{ChartSeen}
+use Rattle.pth_drawing.specs.States.{shown_after}
 use Rattle.pth_drawing.specs.declared.chart.Shown.{Shown}
 use Rattle.pth_drawing.specs.declared.chart.Stretch.{Stretch}
 
@@ -31,3 +34,7 @@ unfoldable pub AreLongest : List Stretch → Type 0
 AreLongest [] = Unit {0}
 AreLongest (x ∷ []) = Unit {0}
 AreLongest (x ∷ y ∷ ys) = ¬ (GoesInto x y) × AreLongest (y ∷ ys)
+
+-- the last column of each lane shows how its thread stands after the last mark
+abbrev pub ShowsEnd : List Mark → ChartSeen → Type 0
+ShowsEnd marks c = All (λ lane. shown_at (c.columns - 1) lane.stretches ≡ drawn_as (Some (shown_after lane.thread marks))) c.lanes

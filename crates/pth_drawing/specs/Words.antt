@@ -3,7 +3,7 @@ use Rattle.std.specs.Prelude.{◌≡◌, ◌==◌, ℕ, nat_lt, Bool, true, ◌|
 use Rattle.clap.specs.Words.{App, Kinds, Row, Rule, Text, fault_of, first_of, matches_of, new_app, new_rule, with_rule}
 use Rattle.clap.specs.declared.builder.value_parser.ValueParser.TheVariants as parser
 use Rattle.pth_command.specs.CommandLine.{number_under}
-use Rattle.pth_drawing.specs.Bounds.{most_columns}
+use Rattle.pth_drawing.specs.Bounds.{most_turns}
 use Rattle.pth_drawing.specs.declared.words.Choice.{Choice}
 use Rattle.pth_print.specs.declared.fault_line.Fault.{Fault}
 use Rattle.pth_print.specs.declared.fault_line.Fault.TheVariants as fault
@@ -45,9 +45,9 @@ asked_in rows = record {
   file = first_of (codes "FILE") rows;
 }
 
--- turns are counted from 1, and from one turn to as many as there may be columns are drawn
+-- turns are counted from 1, and from one turn to as many as may be are drawn
 abbrev pub is_refused : Asked → Bool
-is_refused asked = (asked.from == 0) || ((asked.turns == 0) || nat_lt most_columns asked.turns)
+is_refused asked = (asked.from == 0) || ((asked.turns == 0) || nat_lt most_turns asked.turns)
 
 abbrev pub agreed : Asked → Option Asked
 agreed asked = if is_refused asked then None else Some asked

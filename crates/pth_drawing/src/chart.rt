@@ -34,10 +34,27 @@ pub struct Moment {
     pub at: Micros,
 }
 
-/// A run as it is drawn: how many columns there are, a turn each, the lanes in the order of the threads' numbers, and the moments.
+/// How a run ended.
+#[derive(Clone, Copy, Debug, PartialEq, Eq)]
+pub enum End {
+    /// Main ended with this value.
+    Ended(i64),
+    /// `pth_kill` ended it.
+    Killed,
+    /// Nothing can ever be ready again.
+    Stalled,
+    /// It was stopped after so many steps.
+    StepLimit(u64),
+}
+
+/// A run as it is drawn: the turn of the first column, how many columns there are, whether turns follow the last one (if none do, it is that
+/// of the end), the lanes in the order of the threads' numbers, the moments, and how the run ended.
 #[derive(Drop)]
 pub struct Chart {
+    pub from: u64,
     pub columns: u64,
+    pub is_cut: bool,
     pub lanes: Vec<Lane>,
     pub moments: Vec<Moment>,
+    pub end: End,
 }

@@ -3,12 +3,13 @@
 //! A track changes only when something happens to its thread. A column for each thread and dispatch takes 8,000,000 steps for
 //! 2,000 columns and 4,000 threads.
 
-ghost use Rattle.std.specs.Prelude.{◌≡◌, [], false, IfOk, OnOk};
+ghost use Rattle.std.specs.Prelude.{◌≡◌, ◌≤◌, [], false, IfOk, OnOk};
 ghost use Rattle.pth_base.specs.declared.mark.Mark.{Mark as MarkOf};
+ghost use Rattle.pth_drawing.specs.Bounds.{most_turns};
 ghost use Rattle.pth_drawing.specs.Follow.{Draws, GoesOn, IsOther, Shows};
 ghost use Rattle.pth_drawing.specs.States.{dispatched};
 
-use crate::chart::Chart;
+use crate::chart::{Chart, End};
 use crate::sheet::Sheet;
 use crate::thread_event::thread_event_of;
 use pth_base::ids::Micros;
@@ -99,17 +100,19 @@ impl Drawing {
         }
     }
 
-    /// The chart of the marks so far, unless there is no memory for it.
-    pub fn chart(self) -> Result<Chart, OutOfMemory>
-        ensures { IfOk result (Shows self) }
+    /// The chart of the marks so far, from the first turn that is drawn on, after which the run ended like this. There is none if there is
+    /// no memory for it.
+    pub fn chart(self, from: u64, end: End) -> Result<Chart, OutOfMemory>
+        requires { self.sheet.count ≤ most_turns }
+        ensures { IfOk result (Shows self from end) }
     {
         let Drawing {
             ahead: _,
             turns: _,
-            is_over: _,
+            is_over,
             moved: _,
             sheet,
         } = self;
-        sheet.into_chart()
+        sheet.into_chart(from, is_over, end)
     }
 }

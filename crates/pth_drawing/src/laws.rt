@@ -1,11 +1,12 @@
 //! Laws of charts.
 
-ghost use Rattle.std.specs.Prelude.{◌≡◌, ℕ, List, IfSome, length, slice_get};
+ghost use Rattle.std.specs.Prelude.{◌≡◌, ℕ, false, List, IfSome, length, slice_get};
 ghost use Rattle.std.specs.List.{All, count_by};
 ghost use Rattle.pth_base.specs.declared.mark.Mark.{Mark as MarkOf};
-ghost use Rattle.pth_drawing.specs.Drawing.{Row, stretches_of};
+ghost use Rattle.pth_drawing.specs.Drawing.{Row, chart, stretches_of};
 ghost use Rattle.pth_drawing.specs.States.{turns_of};
-ghost use Rattle.pth_drawing.specs.Tiling.{shown_at, drawn_as, LiesWithin, AreLongest};
+ghost use Rattle.pth_drawing.specs.declared.chart.End.{End as EndOf};
+ghost use Rattle.pth_drawing.specs.Tiling.{shown_at, drawn_as, LiesWithin, AreLongest, ShowsEnd};
 ghost use Rattle.pth_drawing.specs.Turning.{RunsOne, IsTurn, is_dispatch};
 
 /// There are as many turns as marks that dispatch a thread, and each is the one that its mark begins.
@@ -25,4 +26,10 @@ pub fn stretches_tile()
     ensures tile { (row : Row) (i : ℕ) → shown_at i (stretches_of row) ≡ drawn_as (slice_get row i) }
     ensures within { (row : Row) → All (LiesWithin (length row)) (stretches_of row) }
     ensures longest { (row : Row) → AreLongest (stretches_of row) }
+{}
+
+/// If a picture is not cut, the last column of each lane shows how its thread stands after the last mark.
+pub fn end_is_drawn()
+    ensures { (from turns : ℕ) (last : EndOf) (marks : List MarkOf) → (chart from turns last marks).is_cut ≡ false
+        → ShowsEnd marks (chart from turns last marks) }
 {}

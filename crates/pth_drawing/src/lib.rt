@@ -8,7 +8,9 @@
 
 pub mod chart;
 pub mod drawing;
+mod end;
 pub mod example;
+mod foot;
 mod help;
 mod lanes;
 pub mod laws;

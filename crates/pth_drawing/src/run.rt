@@ -8,15 +8,17 @@ ghost use Rattle.pth_transcript.specs.Reading.{ComesTo, CountsFault};
 ghost use Rattle.pth_filter.specs.Answers.{Ran, object_for};
 ghost use Rattle.pth_filter.specs.Objects.{OtherStays, OthersUntouched, content_under, faults_under, is_file, of_read};
 ghost use Rattle.pth_transcript.specs.Taking.{HasMore, IsOver, IsStarted, ahead};
-ghost use Rattle.pth_drawing.specs.Bounds.{most_columns};
+ghost use Rattle.pth_drawing.specs.Bounds.{most_turns};
 ghost use Rattle.pth_drawing.specs.Charts.{chart_seen};
 ghost use Rattle.pth_drawing.specs.Draw.{Makes, StopsAt, draw, picture};
 ghost use Rattle.pth_drawing.specs.Drawing.{chart};
+ghost use Rattle.pth_drawing.specs.Ends.{end_of};
 ghost use Rattle.pth_drawing.specs.Taken.{HasDrawn};
 ghost use Rattle.pth_drawing.specs.Words.{asked_by, asked_of};
 
-use crate::chart::Chart;
+use crate::chart::{Chart, End};
 use crate::drawing::Drawing;
+use crate::end::end_of;
 use crate::svg::add_picture;
 use crate::words::{Choice, read_words};
 use pth_base::memory::OutOfMemory;
@@ -30,19 +32,19 @@ use pth_text::text::Text;
 use pth_transcript::reader::{Part, Reader};
 use std::alloc::Global;
 
-// Draws the marks up to the line of the ending.
+// Draws the marks up to the line of the ending, which shows how the run ended.
 fn draw_marks<S: Source, F: Files>(
     alloc: Global,
     choice: &Choice<'_>,
     reader: &mut Reader,
     input: &mut S,
     files: &mut F,
-) -> Result<Drawing, Fault>
+) -> Result<(Drawing, End), Fault>
     requires started { IsStarted reader.old.of_file (F.started files.old) }
     requires fresh { (reader.old.unread ≡ []) × (reader.old.lines ≡ 0) }
     ensures started { IsStarted reader.new.of_file (F.started files.new) }
     ensures same { reader.new.of_file ≡ reader.old.of_file }
-    ensures drawn { IfOk result (λ d. HasDrawn d choice.now.from choice.now.turns
+    ensures drawn { IfOk result (λ r. HasDrawn r.0 r.1 choice.now.from choice.now.turns
         (ahead [] (of_read reader.old.of_file (S.left input.old) (F.left files.old)))
         (ahead reader.new.unread (of_read reader.old.of_file (S.left input.new) (F.left files.new)))
         reader.new.lines) }
@@ -55,8 +57,9 @@ fn draw_marks<S: Source, F: Files>(
 {
     let mut drawing = Drawing::new(alloc, choice.from, choice.turns);
     'lines: loop {
-        let Part::Mark(told) = reader.next(alloc, input, files)? else {
-            return Ok(drawing);
+        let told = match reader.next(alloc, input, files)? {
+            Part::Mark(told) => told,
+            Part::Ending(ending) => return Ok((drawing, end_of(&ending))),
         };
         let Ok(()) = drawing.add(&told.mark) else {
             return Err(Fault::OutOfMemory);
@@ -101,16 +104,17 @@ fn chart_of<S: Source, F: Files>(
 ) -> Result<Chart, Fault>
     requires started { IsStarted reader.old.of_file (F.started files.old) }
     requires fresh { (reader.old.unread ≡ []) × (reader.old.lines ≡ 0) }
-    ensures made { Makes (λ marks c. chart_seen c ≡ chart choice.now.from choice.now.turns marks)
+    requires few { choice.now.turns ≤ most_turns }
+    ensures made { Makes (λ marks ending c. chart_seen c ≡ chart choice.now.from choice.now.turns (end_of ending) marks)
         (of_read reader.old.of_file (S.left input.old) (F.left files.old)) result }
     ensures counts { CountsFault
         (of_read reader.old.of_file (S.faults input.old) (F.faults files.old))
         (of_read reader.old.of_file (S.faults input.new) (F.faults files.new)) result }
     ensures other { OtherStays reader.old.of_file input.old input.new files.old files.new }
 {
-    let drawing = draw_marks(alloc, choice, reader, input, files)?;
+    let (drawing, end) = draw_marks(alloc, choice, reader, input, files)?;
     expect_end(reader, input, files)?;
-    match drawing.chart() {
+    match drawing.chart(choice.from, end) {
         Ok(chart) => Ok(chart),
         Err(OutOfMemory) => Err(Fault::OutOfMemory),
     }
@@ -123,7 +127,8 @@ fn read_chart<S: Source, F: Files>(
     input: &mut S,
     files: &mut F,
 ) -> Result<Chart, Fault>
-    ensures made { Makes (λ marks c. chart_seen c ≡ chart choice.now.from choice.now.turns marks)
+    requires few { choice.now.turns ≤ most_turns }
+    ensures made { Makes (λ marks ending c. chart_seen c ≡ chart choice.now.from choice.now.turns (end_of ending) marks)
         (content_under (asked_of choice.now).file
         (inputs (S.left input.old) (S.faults input.old)
         (F.left files.old) (F.held files.old) (F.faults files.old))) result }
@@ -150,8 +155,8 @@ fn read_picture<S: Source, F: Files>(
     input: &mut S,
     files: &mut F,
 ) -> Result<Text, Fault>
-    requires few { choice.now.turns ≤ most_columns }
-    ensures made { Makes (λ marks t. t ≡ picture choice.now.from choice.now.turns marks)
+    requires few { choice.now.turns ≤ most_turns }
+    ensures made { Makes (λ marks ending t. t ≡ picture choice.now.from choice.now.turns marks ending)
         (content_under (asked_of choice.now).file
         (inputs (S.left input.old) (S.faults input.old)
         (F.left files.old) (F.held files.old) (F.faults files.old))) result }
@@ -181,7 +186,7 @@ fn write_picture<S: Source, F: Files, O: Sink>(
     files: &mut F,
     out: &mut O,
 ) -> Result<u8, Fault>
-    requires few { choice.now.turns ≤ most_columns }
+    requires few { choice.now.turns ≤ most_turns }
     ensures ran { Ran draw (Some (asked_of choice.now))
         (scene (inputs (S.left input.old) (S.faults input.old)
         (F.left files.old) (F.held files.old) (F.faults files.old))

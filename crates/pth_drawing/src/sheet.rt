@@ -5,7 +5,7 @@ ghost use Rattle.pth_drawing.specs.Drawing.{moment_at};
 ghost use Rattle.pth_drawing.specs.Follow.{IsColumnMore, IsChartOf};
 ghost use Rattle.pth_drawing.specs.Tracks.{new_track, track_in, ChangesAt, after};
 
-use crate::chart::{Chart, Moment};
+use crate::chart::{Chart, End, Moment};
 use crate::lanes::Tracks;
 use crate::thread_event::ThreadEvent;
 use pth_base::ids::Micros;
@@ -88,20 +88,25 @@ impl Sheet {
         self.tracks.hear(thread_event, self.count)
     }
 
-    /// The chart, with the lanes of the threads that are drawn.
-    pub(crate) fn into_chart(self) -> Result<Chart, OutOfMemory>
-        ensures { IfOk result (IsChartOf self) }
+    /// The chart from a turn on, with the lanes of the threads that are drawn, and how the run ended.
+    pub(crate) fn into_chart(self, from: u64, is_cut: bool, end: End) -> Result<Chart, OutOfMemory>
+        requires { self.count + 1 < 2 ^ 64 }
+        ensures { IfOk result (IsChartOf from is_cut end self) }
     {
         let Sheet {
             count,
             moments,
             tracks,
         } = self;
-        let lanes = tracks.into_lanes(count)?;
+        let columns = if is_cut { count } else { count + 1 };
+        let lanes = tracks.into_lanes(columns)?;
         Ok(Chart {
-            columns: count,
+            from,
+            columns,
+            is_cut,
             lanes,
             moments,
+            end,
         })
     }
 }

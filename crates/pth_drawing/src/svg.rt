@@ -1,15 +1,17 @@
 //! The picture of a chart, as a text in SVG.
 
-ghost use Rattle.std.specs.Prelude.{◌≡◌, ◌+◌, ◌*◌, ◌<◌, ◌≤◌, ◌^◌, ◌++◌, All, IfSome, OnOk, flat_map, length, map};
+ghost use Rattle.std.specs.Prelude.{◌≡◌, ◌+◌, ◌*◌, ◌<◌, ◌≤◌, ◌^◌, ◌++◌, All, IfSome, OnOk, decimal, flat_map, length, map};
 ghost use Rattle.pth_drawing.specs.Bounds.{IsLaneWithin, IsStretchWithin, IsWithinColumns, most_columns};
 ghost use Rattle.pth_drawing.specs.Charts.{chart_seen, lane_seen};
-ghost use Rattle.pth_drawing.specs.Picture.{bar_line, cross_line, depth_of, end_lines, left_of, opening_line, thickness_of};
-ghost use Rattle.pth_drawing.specs.Picture.{moment_line, name_line, shown_word, stretch_line, style_line};
-ghost use Rattle.pth_drawing.specs.Picture.{lane_lines, lanes_from, picture_of};
+ghost use Rattle.pth_drawing.specs.Picture.{bar_line, cross_line, depth_of, end_lines, left_of, opening_line, thickness_of, width_of};
+ghost use Rattle.pth_drawing.specs.Picture.{greatest_moment, moment_line, name_line, shown_word, stretch_line, style_line, top_of};
+ghost use Rattle.pth_drawing.specs.Picture.{lane_lines, lanes_from, picture_between, picture_of};
 
 use crate::chart::{Chart, Lane, Moment, Shown, Stretch};
+use crate::foot::{add_caption, add_legend};
 use crate::piece::Piece::{Attribute, Number, Plain};
 use crate::piece::add_pieces;
+use itoa::Buffer;
 use pth_base::memory::OutOfMemory;
 use pth_text::text::Text;
 
@@ -21,25 +23,30 @@ fn left_of(column: u64) -> u64
     60 + 12 * column
 }
 
-// The height of a picture with these lanes.
-fn height_of(lanes: &[Lane]) -> u64
-    ensures { result ≡ 28 + 20 * length lanes.now }
+// How wide a picture of so many columns is.
+fn width_of(columns: u64) -> u64
+    requires { columns ≤ most_columns }
+    ensures { result ≡ width_of columns }
 {
-    28 + 20 * lanes.len() as u64
+    let width = 72 + 12 * columns;
+    if width < 520 { 520 } else { width }
 }
 
-// Adds the line that opens a picture.
+// Adds the lines that open a picture.
 #[tactic(auto, unfolding(crate::specs::Picture::opening_line))]
-fn add_opening(columns: u64, lanes: &[Lane], out: &mut Text) -> Result<(), OutOfMemory>
-    requires { columns ≤ most_columns }
-    ensures { OnOk result (out.new ≡ out.old ++ opening_line columns (length lanes.now)) }
+fn add_opening(width: u64, height: u64, out: &mut Text) -> Result<(), OutOfMemory>
+    ensures { OnOk result (out.new ≡ out.old ++ opening_line width height) }
 {
     add_pieces(
         &[
             Plain(b"<svg xmlns=\"http://www.w3.org/2000/svg\""),
-            Attribute(b"width", 72 + 12 * columns),
-            Attribute(b"height", height_of(lanes)),
-            Plain(b">\n"),
+            Attribute(b"width", width),
+            Attribute(b"height", height),
+            Plain(b" viewBox=\"0 0 "),
+            Number(width),
+            Plain(b" "),
+            Number(height),
+            Plain(b"\">\n<rect width=\"100%\" height=\"100%\" fill=\"white\"/>\n"),
         ],
         out,
     )
@@ -52,7 +59,7 @@ fn add_style(out: &mut Text) -> Result<(), OutOfMemory>
 {
     add_pieces(
         &[
-            Plain(b"<style>text{font:10px monospace}"),
+            Plain(b"<style>text{font:10px monospace;fill:#111827}"),
             Plain(b".running{fill:#2563eb}.waiting{fill:#f59e0b}.ready{fill:#9ca3af}"),
             Plain(
                 b".canceled{stroke:#dc2626;stroke-width:2}.ended{stroke:#111827;stroke-width:3}</style>\n",
@@ -62,18 +69,58 @@ fn add_style(out: &mut Text) -> Result<(), OutOfMemory>
     )
 }
 
+// The greatest moment.
+fn greatest_moment(moments: &[Moment]) -> u64
+    ensures { result ≡ greatest_moment moments.now }
+{
+    let mut greatest = 0;
+    for moment in moments {
+        greatest = greatest.max(moment.at);
+    }
+    greatest
+}
+
+// How many decimal digits a number has.
+fn digits_of(n: u64) -> u64
+    ensures value { result ≡ length (decimal n) }
+    ensures small { result ≤ 20 }
+{
+    let mut buffer = Buffer::new();
+    buffer.format(n).len() as u64
+}
+
+// The upper edge of the first lane.
+fn top_of(moments: &[Moment]) -> u64
+    ensures value { result ≡ top_of moments.now }
+    ensures high { 4 ≤ result }
+    ensures small { result ≤ 134 }
+{
+    14 + 6 * digits_of(greatest_moment(moments))
+}
+
+// The lower edge of the last lane.
+fn bottom_of(top: u64, lanes: &[Lane]) -> u64
+    requires { top ≤ 134 }
+    ensures value { result ≡ top + 20 * length lanes.now }
+    ensures small { result < 2 ^ 63 }
+{
+    top + 20 * lanes.len() as u64
+}
+
 // Adds the line of a moment.
 #[tactic(auto, unfolding(crate::specs::Picture::moment_line))]
-fn add_moment(moment: &Moment, out: &mut Text) -> Result<(), OutOfMemory>
-    requires { moment.now.column < most_columns }
-    ensures { OnOk result (out.new ≡ out.old ++ moment_line moment.now) }
+fn add_moment(top: u64, moment: &Moment, out: &mut Text) -> Result<(), OutOfMemory>
+    requires high { 4 ≤ top }
+    requires within { moment.now.column < most_columns }
+    ensures { OnOk result (out.new ≡ out.old ++ moment_line top moment.now) }
 {
     add_pieces(
         &[
-            Plain(b"<text"),
-            Attribute(b"x", left_of(moment.column)),
-            Attribute(b"y", 14),
-            Plain(b">"),
+            Plain(b"<text transform=\"translate("),
+            Number(left_of(moment.column) + 10),
+            Plain(b" "),
+            Number(top - 4),
+            Plain(b")rotate(-90)\">"),
             Number(moment.at),
             Plain(b"</text>\n"),
         ],
@@ -243,27 +290,46 @@ fn add_lane(top: u64, lane: &Lane, out: &mut Text) -> Result<(), OutOfMemory>
 }
 
 // Adds the lines of lanes, each below the one before it.
-fn add_lanes(lanes: &[Lane], out: &mut Text) -> Result<(), OutOfMemory>
-    requires { All (λ lane. IsLaneWithin most_columns (lane_seen lane)) lanes.now }
-    ensures { OnOk result (out.new ≡ out.old ++ lanes_from 20 (map lane_seen lanes.now)) }
+fn add_lanes(top: u64, lanes: &[Lane], out: &mut Text) -> Result<(), OutOfMemory>
+    requires top { top ≤ 134 }
+    requires within { All (λ lane. IsLaneWithin most_columns (lane_seen lane)) lanes.now }
+    ensures { OnOk result (out.new ≡ out.old ++ lanes_from top (map lane_seen lanes.now)) }
 {
-    let mut top = 20;
+    let mut edge = top;
     for lane in lanes {
-        add_lane(top, lane, out)?;
-        top += 20;
+        add_lane(edge, lane, out)?;
+        edge += 20;
     }
     Ok(())
 }
 
 // Adds the lines of moments.
-fn add_moments(moments: &[Moment], out: &mut Text) -> Result<(), OutOfMemory>
-    requires { All (λ m. m.column < most_columns) moments.now }
-    ensures { OnOk result (out.new ≡ out.old ++ flat_map moment_line moments.now) }
+fn add_moments(top: u64, moments: &[Moment], out: &mut Text) -> Result<(), OutOfMemory>
+    requires high { 4 ≤ top }
+    requires within { All (λ m. m.column < most_columns) moments.now }
+    ensures { OnOk result (out.new ≡ out.old ++ flat_map (moment_line top) moments.now) }
 {
     for moment in moments {
-        add_moment(moment, out)?;
+        add_moment(top, moment, out)?;
     }
     Ok(())
+}
+
+// Adds the picture of a chart whose first lane is at `top`, and whose last one ends at `bottom`.
+fn add_between(top: u64, bottom: u64, chart: &Chart, out: &mut Text) -> Result<(), OutOfMemory>
+    requires high { 4 ≤ top }
+    requires small { top ≤ 134 }
+    requires bottom { bottom < 2 ^ 63 }
+    requires within { IsWithinColumns (chart_seen chart.now) }
+    ensures { OnOk result (out.new ≡ out.old ++ picture_between top bottom (chart_seen chart.now)) }
+{
+    add_opening(width_of(chart.columns), bottom + 48, out)?;
+    add_style(out)?;
+    add_moments(top, &chart.moments, out)?;
+    add_lanes(top, &chart.lanes, out)?;
+    add_caption(bottom, chart, out)?;
+    add_legend(bottom, out)?;
+    out.push(b"</svg>\n")
 }
 
 /// Adds the picture of a chart.
@@ -272,9 +338,7 @@ pub fn add_picture(chart: &Chart, out: &mut Text) -> Result<(), OutOfMemory>
     requires { IsWithinColumns (chart_seen chart.now) }
     ensures { OnOk result (out.new ≡ out.old ++ picture_of (chart_seen chart.now)) }
 {
-    add_opening(chart.columns, &chart.lanes, out)?;
-    add_style(out)?;
-    add_moments(&chart.moments, out)?;
-    add_lanes(&chart.lanes, out)?;
-    out.push(b"</svg>\n")
+    let top = top_of(&chart.moments);
+    let bottom = bottom_of(top, &chart.lanes);
+    add_between(top, bottom, chart, out)
 }

@@ -2,7 +2,7 @@
 
 ghost use Rattle.std.specs.Prelude.{◌≡◌, ◌≤◌, IfOk, false, map, string_bytes};
 ghost use Rattle.clap.specs.Words.{app_of, found_of, rows_of, rule_of};
-ghost use Rattle.pth_drawing.specs.Bounds.{most_columns};
+ghost use Rattle.pth_drawing.specs.Bounds.{most_turns};
 ghost use Rattle.pth_drawing.specs.Words.{Chooses, agreed, asked_by, asked_in, asked_of, bare, file_rule, number_rule, picture};
 
 use clap::error::ErrorKind;
@@ -11,7 +11,7 @@ use pth_print::fault_line::Fault;
 use std::alloc::{AllocError, Global};
 
 /// How many turns are drawn at most.
-pub const MOST_COLUMNS: u64 = 2_000;
+pub const MOST_TURNS: u64 = 2_000;
 
 // How many turns are drawn at most if the words do not say it.
 const DEFAULT_TURNS: u64 = 400;
@@ -77,9 +77,9 @@ fn found<'a>(matches: &ArgMatches<'a>) -> Choice<'a>
 // The choice, if what it asks for may be.
 fn agreed(choice: Choice<'_>) -> Result<Choice<'_>, Fault>
     ensures answers { Chooses (agreed (asked_of choice.entry)) result }
-    ensures turns { IfOk result (λ c. c.turns ≤ most_columns) }
+    ensures turns { IfOk result (λ c. c.turns ≤ most_turns) }
 {
-    if choice.from == 0 || choice.turns == 0 || choice.turns > MOST_COLUMNS {
+    if choice.from == 0 || choice.turns == 0 || choice.turns > MOST_TURNS {
         return Err(Fault::Words);
     }
     Ok(choice)
@@ -89,7 +89,7 @@ fn agreed(choice: Choice<'_>) -> Result<Choice<'_>, Fault>
 /// for may not be, but for want of memory.
 pub fn read_words<'a>(alloc: Global, words: &'a Vec<String>) -> Result<Choice<'a>, Fault>
     ensures answers { Chooses (asked_by (map string_bytes words.now.items)) result }
-    ensures turns { IfOk result (λ choice. choice.turns ≤ most_columns) }
+    ensures turns { IfOk result (λ choice. choice.turns ≤ most_turns) }
 {
     let Ok(command) = command(alloc) else {
         return Err(Fault::OutOfMemory);
