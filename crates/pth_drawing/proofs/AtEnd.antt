@@ -26,7 +26,7 @@ pub shows_end : (from turns : ℕ) (end : End) (marks : List Mark) → (chart fr
 unfolding chart
 shows_end from turns end marks = by (is_cut from turns marks)
   where
-    abbrev columns : List Turn
+    columns : List Turn
     columns = columns_of from turns marks
 
     by : (b : Bool) → b ≡ false → ShowsEnd marks (chart_with from b end marks columns)

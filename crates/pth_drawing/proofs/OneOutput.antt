@@ -44,7 +44,7 @@ module _ (asked : Asked) (bytes : List ℕ) where
     stop = Off off.rest off.begins off.off;
     said = e ∙ ap (λ n. refusal program (fault.Input n NoTranscript)) off.counted;
   }
-  says out (inr (line, inr (told, ending, goes_on), e)) = record {
+  says out (inr (line, inr (told, last, goes_on), e)) = record {
     told = told;
     stop = AtEnding last goes_on.rest goes_on.begins;
     said = GoesPast goes_on.more (e ∙ ap (λ n. refusal program (fault.Input n NoTranscript)) goes_on.counted);
@@ -81,7 +81,7 @@ module _ (asked : Asked) (bytes : List ℕ) where
 
   same_said : {a b : List Told} (s : Stop bytes a) (t : Stop bytes b) (x y : Output) → marks_of a ≡ marks_of b → AreSame bytes s t → IsSaid s x → IsSaid t y → x ≡ y
   same_said (AtMark last rest with) t x y marks same p q = absurd p
-  same_said (AtEnding last rest with) (AtMark last behind and) x y marks same p q = absurd q
+  same_said (AtEnding last rest with) (AtMark mark behind and) x y marks same p q = absurd q
   same_said {a} {b} (AtEnding last rest with) (AtEnding other behind and) x y marks same p q = one_end a b last other rest behind x y marks same.0 same.1 p q
   same_said (AtEnding last rest with) (Off behind begins off) x y marks same p q = absurd same
   same_said (Off rest begins off) (AtMark last behind and) x y marks same p q = absurd q

@@ -1,5 +1,5 @@
 -- The picture of a chart, as a text in SVG. Lengths are in pixels, and places are counted from the upper left corner.
-use Rattle.std.specs.Prelude.{◌+◌, ◌-◌, ◌*◌, ◌==◌, ℕ, if◌then◌else◌, List, [], ◌∷◌, ◌++◌, codes, decimal, flat_map, fold, length, max, Option, Some, None}
+use Rattle.std.specs.Prelude.{◌+◌, ◌*◌, ◌==◌, ℕ, if◌then◌else◌, List, [], ◌∷◌, ◌++◌, codes, decimal, flat_map, fold, length, max, Option, Some, None}
 use Rattle.std.specs.Fmt.{signed_decimal}
 use Rattle.std.specs.List.{concat}
 use Rattle.pth_drawing.specs.Charts.{ChartSeen, LaneSeen}
@@ -46,7 +46,7 @@ top_of moments = 14 + 6 * length (decimal (greatest_moment moments))
 
 -- a moment stands upright above its column
 unfoldable pub moment_line : (top : ℕ) → Moment → List ℕ
-moment_line top m = concat (codes "<text transform=\"translate(" ∷ decimal (left_of m.column + 10) ∷ codes " " ∷ decimal (top - 4)
+moment_line top m = concat (codes "<text x=\"4\" transform=\"translate(" ∷ decimal (left_of m.column + 10) ∷ codes " " ∷ decimal top
     ∷ codes ")rotate(-90)\">" ∷ decimal m.at ∷ codes "</text>\n" ∷ [])
 
 -- ---- a lane, whose upper edge is at `top`
@@ -120,9 +120,11 @@ ending_words end.Stalled = codes "stalled"
 ending_words (end.StepLimit n) = codes "step limit " ++ decimal n
 
 -- the caption says all of that
+abbrev pub caption_words : ChartSeen → List ℕ
+caption_words chart = from_words chart.from ++ (cut_words chart ++ (codes "End of the run: " ++ ending_words chart.end))
+
 unfoldable pub caption_line : (bottom : ℕ) → ChartSeen → List ℕ
-caption_line bottom chart = codes "<text x=\"4\"" ++ (attribute (codes "y") (bottom + 16) ++ (codes ">"
-    ++ (from_words chart.from ++ (cut_words chart ++ (codes "End of the run: " ++ (ending_words chart.end ++ codes "</text>\n"))))))
+caption_line bottom chart = codes "<text x=\"4\" y=\"" ++ (decimal (bottom + 16) ++ (codes "\">" ++ (caption_words chart ++ codes "</text>\n")))
 
 -- the legend says what each sign means
 unfoldable pub legend_lines : (bottom : ℕ) → List ℕ

@@ -2,10 +2,10 @@
 
 ghost use Rattle.std.specs.Prelude.{◌≡◌, ◌<◌, ◌^◌, ◌++◌, OnOk};
 ghost use Rattle.pth_drawing.specs.Charts.{chart_seen};
-ghost use Rattle.pth_drawing.specs.Picture.{caption_line, cut_words, ending_words, from_words, legend_lines};
+ghost use Rattle.pth_drawing.specs.Picture.{caption_line, caption_words, cut_words, ending_words, from_words, legend_lines};
 
 use crate::chart::{Chart, End};
-use crate::piece::Piece::{Attribute, Number, Plain};
+use crate::piece::Piece::{Number, Plain};
 use crate::piece::add_pieces;
 use pth_base::memory::OutOfMemory;
 use pth_text::text::Text;
@@ -55,24 +55,26 @@ fn add_end(end: End, out: &mut Text) -> Result<(), OutOfMemory>
     }
 }
 
+// Adds the words of the caption.
+fn add_words(chart: &Chart, out: &mut Text) -> Result<(), OutOfMemory>
+    ensures { OnOk result (out.new ≡ out.old ++ caption_words (chart_seen chart.now)) }
+{
+    add_from(chart.from, out)?;
+    add_cut(chart, out)?;
+    out.push(b"End of the run: ")?;
+    add_end(chart.end, out)
+}
+
 /// Adds the caption below the last lane, whose lower edge is at `bottom`.
 #[tactic(auto, unfolding(crate::specs::Picture::caption_line))]
 pub(crate) fn add_caption(bottom: u64, chart: &Chart, out: &mut Text) -> Result<(), OutOfMemory>
     requires { bottom < 2 ^ 63 }
     ensures { OnOk result (out.new ≡ out.old ++ caption_line bottom (chart_seen chart.now)) }
 {
-    add_pieces(
-        &[
-            Plain(b"<text x=\"4\""),
-            Attribute(b"y", bottom + 16),
-            Plain(b">"),
-        ],
-        out,
-    )?;
-    add_from(chart.from, out)?;
-    add_cut(chart, out)?;
-    out.push(b"End of the run: ")?;
-    add_end(chart.end, out)?;
+    out.push(b"<text x=\"4\" y=\"")?;
+    out.natural(bottom + 16)?;
+    out.push(b"\">")?;
+    add_words(chart, out)?;
     out.push(b"</text>\n")
 }
 

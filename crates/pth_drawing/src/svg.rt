@@ -92,7 +92,6 @@ fn digits_of(n: u64) -> u64
 // The upper edge of the first lane.
 fn top_of(moments: &[Moment]) -> u64
     ensures value { result ≡ top_of moments.now }
-    ensures high { 4 ≤ result }
     ensures small { result ≤ 134 }
 {
     14 + 6 * digits_of(greatest_moment(moments))
@@ -110,16 +109,15 @@ fn bottom_of(top: u64, lanes: &[Lane]) -> u64
 // Adds the line of a moment.
 #[tactic(auto, unfolding(crate::specs::Picture::moment_line))]
 fn add_moment(top: u64, moment: &Moment, out: &mut Text) -> Result<(), OutOfMemory>
-    requires high { 4 ≤ top }
-    requires within { moment.now.column < most_columns }
+    requires { moment.now.column < most_columns }
     ensures { OnOk result (out.new ≡ out.old ++ moment_line top moment.now) }
 {
     add_pieces(
         &[
-            Plain(b"<text transform=\"translate("),
+            Plain(b"<text x=\"4\" transform=\"translate("),
             Number(left_of(moment.column) + 10),
             Plain(b" "),
-            Number(top - 4),
+            Number(top),
             Plain(b")rotate(-90)\">"),
             Number(moment.at),
             Plain(b"</text>\n"),
@@ -305,8 +303,7 @@ fn add_lanes(top: u64, lanes: &[Lane], out: &mut Text) -> Result<(), OutOfMemory
 
 // Adds the lines of moments.
 fn add_moments(top: u64, moments: &[Moment], out: &mut Text) -> Result<(), OutOfMemory>
-    requires high { 4 ≤ top }
-    requires within { All (λ m. m.column < most_columns) moments.now }
+    requires { All (λ m. m.column < most_columns) moments.now }
     ensures { OnOk result (out.new ≡ out.old ++ flat_map (moment_line top) moments.now) }
 {
     for moment in moments {
@@ -317,7 +314,6 @@ fn add_moments(top: u64, moments: &[Moment], out: &mut Text) -> Result<(), OutOf
 
 // Adds the picture of a chart whose first lane is at `top`, and whose last one ends at `bottom`.
 fn add_between(top: u64, bottom: u64, chart: &Chart, out: &mut Text) -> Result<(), OutOfMemory>
-    requires high { 4 ≤ top }
     requires small { top ≤ 134 }
     requires bottom { bottom < 2 ^ 63 }
     requires within { IsWithinColumns (chart_seen chart.now) }

@@ -26,7 +26,7 @@ returns-in_err-told-clause-fault g c =
 
 pub returns-in_default-clause-drawn : goal.returns-in_default-clause-drawn
 returns-in_default-clause-drawn g c =
-    ends _ _ _ _ _ _ _ _ _ _ c.lines.invariant.along
+    ends _ _ _ _ _ _ _ _ _ _ _ c.end_of.ensures c.lines.invariant.along
     (of_same _ _ c.lines.invariant.same (λ a b. Takes a b (part_line c.in_ok-told.field-0)) _ _ _ _ _ _ c.in_ok-told.ensures.takes) c.in_default.is
     c.in_ok-told.ensures.told c.in_ok-told.ensures.lines c.in_ok-told.ensures.few
 
