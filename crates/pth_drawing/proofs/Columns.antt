@@ -4,7 +4,7 @@ use Rattle.std.proofs.lemmas.Bool.{eqb-true}
 use Rattle.std.proofs.lemmas.List.{length-map, length_push}
 use Rattle.std.proofs.lemmas.List.Elements.{All-cons, All-get_or, All-map, All-nil, All-weaker}
 use Rattle.pth_base.specs.declared.mark.Mark.{Mark}
-use Rattle.pth_drawing.specs.Bounds.{IsLaneWithin, IsStretchWithin, IsWithinColumns, most_columns, most_turns}
+use Rattle.pth_drawing.specs.Bounds.{IsLaneWithin, IsStretchWithin, IsWithinColumns, most_turns}
 use Rattle.pth_drawing.specs.Drawing.{chart, columns_of, ends_in, is_canceled_in, is_cut, is_same, lane_of, moment_at, moments_from, moved_in, places, places_from, row_of, stretches_from, whole_row, with_column, with_end}
 use Rattle.pth_drawing.specs.States.{Turn, shown_after, shown_in, turns_of}
 use Rattle.pth_drawing.specs.declared.chart.End.{End}

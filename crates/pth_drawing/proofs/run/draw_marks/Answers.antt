@@ -24,10 +24,10 @@ returns-in_err-told-clause-fault g c =
     c.from_residual.result c.in_err-told.field-0.0 c.from_residual.ensures.1 (stops _ _ _ _ _ _ _ c.in_err-told.field-0.0 c.lines.invariant.along
     (of_same _ _ c.lines.invariant.same (λ a b. ComesTo c.lines.reader.lines (IsRefused c.lines.reader.lines a b) c.in_err-told.field-0.0) _ _ _ _ _ _ c.in_err-told.ensures.fault))
 
-pub returns-in_default-clause-drawn : goal.returns-in_default-clause-drawn
-returns-in_default-clause-drawn g c =
+pub returns-in-Ending-clause-drawn : goal.returns-in-Ending-clause-drawn
+returns-in-Ending-clause-drawn g c =
     ends _ _ _ _ _ _ _ _ _ _ _ c.end_of.ensures c.lines.invariant.along
-    (of_same _ _ c.lines.invariant.same (λ a b. Takes a b (part_line c.in_ok-told.field-0)) _ _ _ _ _ _ c.in_ok-told.ensures.takes) c.in_default.is
+    (of_same _ _ c.lines.invariant.same (λ a b. Takes a b (part_line c.in_ok-told.field-0)) _ _ _ _ _ _ c.in_ok-told.ensures.takes) c.in-Ending.is
     c.in_ok-told.ensures.told c.in_ok-told.ensures.lines c.in_ok-told.ensures.few
 
 pub lines-preserved : goal.lines-preserved
