@@ -1,7 +1,9 @@
 -- What a thread tells of handlers and destructors, and of what it gives back, in its own turn or as it is canceled in another's: it
 -- leaves the account as it is, and makes no thread.
-use Rattle.std.proofs.Common.{◌≡◌, ℕ, zero, suc, ◌+◌, ◌*◌, not, Bool, true, false, if◌then◌else◌, ℤ, pos, List, [], ◌∷◌, ◌++◌, map, Option, Some, None, refl, sym, ◌∙◌, ap, subst}
+use Rattle.std.proofs.Common.{◌≡◌, ◌≢◌, ◌==◌, ℕ, zero, suc, ◌+◌, ◌*◌, not, Bool, true, false, if◌then◌else◌, ℤ, pos, List, [], ◌∷◌, ◌++◌, map, Option, Some, None, refl, sym, ◌∙◌, ap, subst}
+use Rattle.std.proofs.lemmas.Option.{none-some, same_Some}
 use Rattle.pth_base.specs.Program.{Functions}
+use Rattle.pth_base.proofs.Tables.{same_fails}
 use Rattle.pth_base.specs.declared.act.Act.{Act}
 use Rattle.pth_base.specs.declared.act.Act.TheVariants as act
 use Rattle.pth_base.specs.declared.ids.HandlerId.{HandlerId}
@@ -27,13 +29,21 @@ use Rattle.pth_model.specs.Acts.{acts, acts_from, act_limit, answer_in, row_of_a
 use Rattle.pth_model.specs.Barriers.{withdraws, withdraws_from}
 use Rattle.pth_model.specs.Conditions.{leaves_seat, hands_on_seat, hands_on_seats}
 use Rattle.pth_model.specs.RingWaits.{awaited_in, claims, gives_back, stops_waiting, ring_held}
-use Rattle.pth_model.specs.Ending.{ending, undoes_wait, runs_each, runs_cleanups, destructs, destructs_by, runs_destructors, mutexes_had, locks_held, gives_mutexes, gives_locks, gives_all, leaves, is_dead_with, dies, next_destructor, round_limit, first_round}
+use Rattle.pth_model.specs.Ending.{ending, undoes_wait, runs_each, runs_cleanups, destructs, destructs_by, runs_destructors, mutexes_had, locks_held, gives_mutexes, gives_locks, gives_all, leaves, is_dead_with, dies, next_destructor, round_limit, first_round, other_than}
 use Rattle.pth_turns.specs.Turns.{Account, may_end, account_after}
 use Rattle.pth_turns.proofs.Accounts.{Leads, leads_nowhere, leads_one, leads_then}
 
 -- one mark, which leaves the account
 abbrev IsOfBlock : ℕ → Mark → Type 0
 IsOfBlock t m = (a : Account) → may_end a t ≡ true → Leads a (m ∷ []) a
+
+not_other : (t : ℕ) (o : Option ℕ) → other_than t o ≢ Some t
+not_other t None h = none-some t h
+not_other t (Some u) h = by_test (u == t) refl h
+  where
+    by_test : (b : Bool) → (u == t) ≡ b → (if b then None else Some u) ≢ Some t
+    by_test true same h = none-some t h
+    by_test false other h = same_fails u t other (same_Some u t h)
 
 module _ {P S H : Type 0} where
   -- how many threads were made is as before
@@ -182,19 +192,26 @@ module _ {P S H : Type 0} where
       by_joinable true = refl
       by_joinable false = refl
 
+  leaves_gone : (t : ℕ) (v : ℤ) (k : Control P S H) → (leaves t v k).scheduler.running ≢ Some t
+  unfolding leaves
+  leaves_gone t v k = not_other t ((if (or_nobody (entry_of k t)).joinable then is_dead_with t v else removes t) k).scheduler.running
+
   -- its marks lead to the account after its end
   pub record EndsAs (t : ℕ) (v : ℤ) (s : State P S H) (x : Transition P S H) : Type 0 where
     pub leads : (a : Account) → may_end a t ≡ true → Leads a x.marks (account_after a (mark.Ended (tid t) v))
     pub made : IsMadeAs s x.state
+    -- it does not run any longer
+    pub gone : x.state.control.scheduler.running ≢ Some t
 
   after_block : (t : ℕ) (v : ℤ) (p q : Piece P S H) (s : State P S H) → Blocks t s (p s) → EndsAs t v (p s).state (q (p s).state) → EndsAs t v s ((p and_then q) s)
   after_block t v p q s x y = record {
     leads = λ a own. leads_then a (p s).marks (q (p s).state).marks a (account_after a (mark.Ended (tid t) v)) (x.leads a own) (y.leads a own);
     made = y.made ∙ x.made;
+    gone = y.gone;
   }
 
   dies_as : (t : ℕ) (v : ℤ) (s : State P S H) → EndsAs t v s (dies t v s)
-  dies_as t v s = record { leads = λ a own. leads_one a (mark.Ended (tid t) v) own; made = leaves_made t v s.control }
+  dies_as t v s = record { leads = λ a own. leads_one a (mark.Ended (tid t) v) own; made = leaves_made t v s.control; gone = leaves_gone t v s.control }
 
   pub ending_as : (f : P → Functions S H) (t : ℕ) (v : ℤ) (s : State P S H) → EndsAs t v s (ending f t v s)
   unfolding ending

@@ -5,3 +5,4 @@ pub mod Effects
 pub mod Steps
 pub mod Waiting
 pub mod Progress
+pub mod Parts

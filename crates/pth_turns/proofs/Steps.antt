@@ -68,7 +68,7 @@ module _ {P S H : Type 0} where
   IsLeft t a (next.Done x) b u = Kept a b u × (b.running ≡ Some t)
   IsLeft t a (next.Yields x) b u = Kept a b u × (b.running ≡ None) × (blocked_of u.control t ≡ None)
   IsLeft t a next.Waits b u = Kept a b u × (b.running ≡ None) × (b.waited t ≡ true)
-  IsLeft t a (next.Ended v) b u = Kept a b u × (b.running ≡ None)
+  IsLeft t a (next.Ended v) b u = Kept a b u × (b.running ≡ None) × (u.control.scheduler.running ≢ Some t)
   -- a run that is killed goes no further
   IsLeft t a next.Killed b u = Unit {0}
 
@@ -91,7 +91,7 @@ none_is : {A : Type 0} (o : Option A) → is_none o ≡ true → o ≡ None
 none_is None h = refl
 none_is (Some x) h = absurd (true≢false (sym h))
 
-and_both : (a b : Bool) → a ≡ true → b ≡ true → (a && b) ≡ true
+pub and_both : (a b : Bool) → a ≡ true → b ≡ true → (a && b) ≡ true
 and_both true b x y = y
 and_both false b x y = x
 
@@ -160,7 +160,7 @@ module _ {P S H : Type 0} (t : ℕ) where
       record {
         to = b;
         leads = subst (λ (o : Option ℕ). Leads a (ending f t v s).marks (ends a o t)) r.0 (e.leads a (turn_may_end a t i.turn));
-        left = (record { turn = refl; moment = refl; canceled = r.0; made = i.made ∙ sym e.made; nobody = put_other a.ended t true 0 (not_nobody a.made t (up_made a t r.2)); waited = λ v h. h }, refl);
+        left = (record { turn = refl; moment = refl; canceled = r.0; made = i.made ∙ sym e.made; nobody = put_other a.ended t true 0 (not_nobody a.made t (up_made a t r.2)); waited = λ v h. h }, refl, e.gone);
       }
 
   -- ---- what comes before

@@ -132,7 +132,7 @@ module _ {P S H : Type 0} where
     waiters_leave t k h v (inl stands) = h v (inl (left_stands t v (k.threads.standing Waiting) stands).0)
     waiters_leave t k h v (inr at) = h v (inr at)
 
-    waiters_set : (t : ℕ) (c : Change) (k : Control P S H) → LeavesState c → Waiters W k → Waiters W (sets t c k)
+    pub waiters_set : (t : ℕ) (c : Change) (k : Control P S H) → LeavesState c → Waiters W k → Waiters W (sets t c k)
     unfolding sets
     waiters_set t c k leaves h v (inl stands) = h v (inl stands)
     waiters_set t c k leaves h v (inr at) =
