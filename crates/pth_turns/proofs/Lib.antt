@@ -6,3 +6,4 @@ pub mod Steps
 pub mod Waiting
 pub mod Progress
 pub mod Parts
+pub mod EveryRun

@@ -27,7 +27,7 @@ use Rattle.pth_model.specs.Allowance.{standing_of, waited, allowed, number_by}
 use Rattle.pth_model.specs.Changes.{blocked_in, owing, sets, enters, leaves_queue, goes_on, trails, raises_ready, or_nobody, entry_of, prio_of, blocked_of, holders, moves_to}
 use Rattle.pth_model.specs.Course.{Course}
 use Rattle.pth_model.specs.Part.{rank_by, readies, readies_all, readies_new, runs, trail_with, dispatches, takes, takes_by, chosen, owes_after, steps, steps_on, turn_after, ends_run, is_put_back, is_put_waiting, placed_by, is_placed, turn_ends, closes, moves_by}
-use Rattle.pth_model.specs.Pass.{pass, looks, waiting, is_to_wake, to_wake, woken, all_woken, is_ready_at, moments}
+use Rattle.pth_model.specs.Pass.{pass, looks, waiting, is_to_wake, to_wake, woken, all_woken, is_ready_at, moment}
 use Rattle.pth_model.specs.Standing.{Standing, raises_of}
 use Rattle.pth_model.specs.State.{State, Control, Turn, queue, now_of, clock_of, main}
 use Rattle.pth_model.specs.Transition.{controlled, tells, tid}
@@ -140,6 +140,9 @@ module _ {P S H : Type 0} where
 
   -- ---- time moves
 
+  pub ahead : (f : P → Functions S H) (s : State P S H) (m : ℕ) → moment f s ≡ Some m → (now_of s.control < m) × (m ≤ last_moment)
+  ahead f s m h = later (now_of s.control) _ m h
+
   pub moved_leaves : (f : P → Functions S H) (x : Turn) (o : Option ℕ) (a : Account) (s : State P S H) → ((m : ℕ) → o ≡ Some m → (now_of s.control < m) × (m ≤ last_moment)) → x.gave ≡ None → s.control.scheduler.running ≡ None → Waiters (HasWaited a) s.control → Fits a (record { state = s; turn = x; marks = [] }) → Leaves a (moves_by f x o s)
   moved_leaves f x None a s ahead none rests have h = record { to = a; leads = leads_nowhere a; fits = λ on. absurd (cc on) }
   moved_leaves f x (Some m) a s ahead none rests have h =
@@ -227,6 +230,11 @@ module _ {P S H : Type 0} where
       W : ℕ → Type 0
       W v = put a.waited t false v ≡ true
 
+  taken_made : (x : Turn) (o : Option ℕ) (s : State P S H) → (takes_by x o s).state.control.threads.made ≡ s.control.threads.made
+  unfolding dispatches runs trails sets leaves_queue
+  taken_made x None s = refl
+  taken_made x (Some t) s = refl
+
   pub take_leaves : (x : Turn) (a : Account) (s : State P S H) → ((t : ℕ) → (takes x s).state.control.scheduler.running ≡ Some t → is_up a t ≡ true) → Rests a x s.control → Fits a (record { state = s; turn = x; marks = [] }) → Leaves a (takes x s)
   unfolding takes dispatches runs
   take_leaves x a s up r h =
@@ -248,6 +256,20 @@ module _ {P S H : Type 0} where
         blocked = λ t g. absurd (none-some t (sym r.none ∙ g));
         waiters = p.0;
       })
+
+  pub takes_outcome : (x : Turn) (s : State P S H) → (takes x s).turn.outcome ≡ x.outcome
+  unfolding takes
+  takes_outcome x s = by_chosen (chosen (controlled readies_new s).control.scheduler.preferred (queue (controlled readies_new s).control Ready))
+    where
+      by_chosen : (o : Option ℕ) → (takes_by x o (controlled readies_new s)).turn.outcome ≡ x.outcome
+      by_chosen None = refl
+      by_chosen (Some t) = refl
+
+  pub takes_made : (x : Turn) (s : State P S H) → (takes x s).state.control.threads.made ≡ s.control.threads.made
+  unfolding takes
+  takes_made x s =
+      let u = controlled readies_new s in
+      taken_made x (chosen u.control.scheduler.preferred (queue u.control Ready)) u ∙ (readies_pass (λ v. Unit {0}) (reverse (holders (queue s.control New))) s.control (λ v w. tt)).1.made
 
   -- ---- a turn is closed
 
