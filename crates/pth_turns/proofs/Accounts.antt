@@ -26,6 +26,11 @@ leads_then a (m ∷ xs) ys b c x y =
     let rest = leads_then (account_after a m) xs ys b c (record { allowed = x.allowed.1; to = x.to }) y in
     record { allowed = (x.allowed.0, rest.allowed); to = rest.to }
 
+-- marks before others are allowed where all of them are
+pub allowed_before : (a : Account) (xs ys : List Mark) → AreAllowed a (xs ++ ys) → AreAllowed a xs
+allowed_before a [] ys h = tt
+allowed_before a (m ∷ xs) ys h = (h.0, allowed_before (account_after a m) xs ys h.1)
+
 -- who has the turn may end
 pub turn_may_end : (a : Account) (t : ℕ) → has_turn a t ≡ true → may_end a t ≡ true
 turn_may_end a t h = by_canceled a.canceled h

@@ -144,7 +144,7 @@ module _ {P S H : Type 0} where
   record IsInTurns (c : Course P S H) : Type 0 where
     to : Account
     leads : Leads first_account c.marks to
-    fits : c.turn.outcome ≡ outcome.Running → Fits to c
+    fits : c.turn.outcome ≡ outcome.Running → Fits to c.state c.turn
 
   -- who lives at these marks, or later, was made and has not ended
   up_of : (a : Account) (marks rest : List Mark) (s : State P S H) (x : Turn) → account_of first_account marks ≡ a → a.ended 0 ≡ false → a.made ≡ s.control.threads.made → IsValid s x → IsTiedTo s (marks ++ rest) → (v : ℕ) → lives (s.control.threads.known v) ≡ true → is_up a v ≡ true
@@ -170,9 +170,6 @@ module _ {P S H : Type 0} where
   module _ (f : P → Functions S H) (g : Given P) (early : g.kernel.now ≤ last_moment) where
     on_killed : outcome.Running ≡ outcome.Killed → ⊥
     on_killed h = cc
-
-    bare : (a : Account) (c : Course P S H) → Fits a c → Fits a (record { state = c.state; turn = c.turn; marks = [] })
-    bare a c h = record { turn = h.turn; moment = h.moment; early = h.early; canceled = h.canceled; made = h.made; nobody = h.nobody; running = h.running; over = h.over; gave = h.gave; blocked = h.blocked; waiters = h.waiters }
 
     -- a run that has an outcome goes no further
     halted : (c : Course P S H) (o : Outcome) → c.turn.outcome ≡ o → (o ≡ outcome.Running → ⊥) → ((part f c.turn c.state).marks ≡ []) × ((part f c.turn c.state).turn.outcome ≡ o)
@@ -200,7 +197,7 @@ module _ {P S H : Type 0} where
       c = run f g i
 
       -- the next part, by what it is
-      leaves : (a : Account) (p : Part) → next_part c.state c.turn ≡ p → c.turn.outcome ≡ outcome.Running → account_of first_account c.marks ≡ a → Fits a c → IsValid c.state c.turn → IsTiedTo c.state c.marks → let d = part_by f c.turn c.state p in ((d.turn.outcome ≡ outcome.Killed → ⊥) → IsValid d.state d.turn × IsTiedTo d.state (c.marks ++ d.marks)) → Leaves a d
+      leaves : (a : Account) (p : Part) → next_part c.state c.turn ≡ p → c.turn.outcome ≡ outcome.Running → account_of first_account c.marks ≡ a → Fits a c.state c.turn → IsValid c.state c.turn → IsTiedTo c.state c.marks → let d = part_by f c.turn c.state p in ((d.turn.outcome ≡ outcome.Killed → ⊥) → IsValid d.state d.turn × IsTiedTo d.state (c.marks ++ d.marks)) → Leaves a d
       unfolding next_part moves
       leaves a p is on to h valid tied later = by_part p is later
         where
@@ -214,7 +211,7 @@ module _ {P S H : Type 0} where
           up = up_of a c.marks [] s c.turn to h.nobody h.made valid (subst (IsTiedTo s) (sym (append-nil c.marks)) tied)
 
           have : Waiters (HasWaited a) s.control
-          have v waits = (h.waiters v waits, up v (waiter_lives s c.turn valid v waits))
+          have v waits = (h.places.waiters v waits, up v (waiter_lives s c.turn valid v waits))
 
           taken_up : let d = takes c.turn s in ((d.turn.outcome ≡ outcome.Killed → ⊥) → IsValid d.state d.turn × IsTiedTo d.state (c.marks ++ d.marks)) → (t : ℕ) → d.state.control.scheduler.running ≡ Some t → is_up a t ≡ true
           taken_up later t runs =
@@ -223,16 +220,16 @@ module _ {P S H : Type 0} where
               up_of a c.marks d.marks d.state d.turn to h.nobody (h.made ∙ sym (takes_made c.turn s)) z.0 z.1 t (z.0.runs t runs)
 
           by_part : (p : Part) → next_part s c.turn ≡ p → let d = part_by f c.turn s p in ((d.turn.outcome ≡ outcome.Killed → ⊥) → IsValid d.state d.turn × IsTiedTo d.state (c.marks ++ d.marks)) → Leaves a d
-          by_part Move is later = let r = part_rests c.turn.outcome c.turn.gave s.control.scheduler.running idle Move (inl refl) is in moved_leaves f c.turn (moment f s) a s (ahead f s) r.0 r.1 have (bare a c h)
+          by_part Move is later = let r = part_rests c.turn.outcome c.turn.gave s.control.scheduler.running idle Move (inl refl) is in moved_leaves f c.turn (moment f s) a s (ahead f s) r.0 r.1 have h
           by_part Take is later =
               let r = part_rests c.turn.outcome c.turn.gave s.control.scheduler.running idle Take (inr refl) is in
-              take_leaves c.turn a s (taken_up later) (record { none = r.0; rests = r.1; stopped = h.running r.0 ∙ r.1 }) (bare a c h)
+              take_leaves c.turn a s (taken_up later) (record { none = r.0; rests = r.1; stopped = h.running r.0 ∙ r.1 }) h
           by_part (Step t) is later =
               let r = step_next c.turn.outcome c.turn.gave s.control.scheduler.running idle t is in
               let alive = valid.runs t r.1 in
-              step_leaves f c.turn t a s (run_there f g i t (lives_some (s.control.threads.known t) alive)) up r.0 r.1 (up t alive) (λ y done. (run_steps f g i t is).1 y done) (bare a c h)
-          by_part (Close t) is later = close_leaves f c.turn t a s (close_next c.turn.outcome c.turn.gave s.control.scheduler.running idle t is) (λ runs. up t (valid.runs t runs)) have (bare a c h)
-          by_part Halt is later = record { to = a; leads = leads_nowhere a; fits = λ goes. bare a c h }
+              step_leaves f c.turn t a s (run_there f g i t (lives_some (s.control.threads.known t) alive)) up r.0 r.1 (up t alive) (λ y done. (run_steps f g i t is).1 y done) h
+          by_part (Close t) is later = close_leaves f c.turn t a s (close_next c.turn.outcome c.turn.gave s.control.scheduler.running idle t is) (λ runs. let alive = valid.runs t runs in (up t alive, run_there f g i t (lives_some (s.control.threads.known t) alive))) have h
+          by_part Halt is later = record { to = a; leads = leads_nowhere a; fits = λ goes. h }
 
     run_in_turns_by : (i : ℕ) (o : Outcome) → (run f g i).turn.outcome ≡ o → IsInTurns (run f g i) → IsInTurns (run f g (suc i))
     unfolding parts part
@@ -244,12 +241,12 @@ module _ {P S H : Type 0} where
         record {
           to = l.to;
           leads = leads_then first_account c.marks d.marks t.to l.to t.leads l.leads;
-          fits = λ goes. let h = l.fits goes in record { turn = h.turn; moment = h.moment; early = h.early; canceled = h.canceled; made = h.made; nobody = h.nobody; running = h.running; over = h.over; gave = h.gave; blocked = h.blocked; waiters = h.waiters };
+          fits = l.fits;
         }
     run_in_turns_by i o on t = goes_nowhere (run f g i) o on (λ odd. absurd (cc odd)) t
 
-    first_fits : Fits first_account (run f g zero)
-    unfolding parts start
+    first_fits : Fits first_account (start f g) no_turn
+    unfolding start
     first_fits = record {
       turn = refl;
       moment = omega arith;
@@ -261,12 +258,15 @@ module _ {P S H : Type 0} where
       over = λ t gave. absurd (none-some t gave);
       gave = λ t gave. absurd (none-some t gave);
       blocked = λ t gave. absurd (none-some t gave);
-      waiters = λ v waits. nobody_waits v waits;
+      free = λ t gave runs. refl;
+      aside = λ t runs. absurd (none-some t runs);
+      places = record { waiters = λ v waits. absurd (nobody_waits v waits); runners = λ v runs. refl; once = tt };
+      of_made = λ v waits. absurd (true≢false (sym waits));
     }
       where
-        nobody_waits : (v : ℕ) → Waits (start f g).control v → first_account.waited v ≡ true
+        nobody_waits : (v : ℕ) → Waits (start f g).control v → ⊥
         nobody_waits v (inl stands) = absurd stands
-        nobody_waits v (inr at) = absurd (put_by (λ o. (or_nobody o).state ≡ state.Waiting → ⊥) (λ u. None) main (Some main_entry) v (λ here now. cc) (λ other now. cc) at)
+        nobody_waits v (inr at) = put_by (λ o. (or_nobody o).state ≡ state.Waiting → ⊥) (λ u. None) main (Some main_entry) v (λ here now. cc) (λ other now. cc) at
 
     run_in_turns : (i : ℕ) → IsInTurns (run f g i)
     unfolding parts

@@ -7,3 +7,4 @@ pub mod Waiting
 pub mod Progress
 pub mod Parts
 pub mod EveryRun
+pub mod Refused

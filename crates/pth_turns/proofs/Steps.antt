@@ -54,21 +54,24 @@ use Rattle.pth_turns.proofs.Yielding.{is_yielding, is_yield, begins_unyielding, 
 -- ---- what a step leaves of an account
 
 module _ {P S H : Type 0} where
-  -- as before but for who runs, who has ended and who has waited; and how many threads were made is as the state says
+  -- as before but for who runs, who has ended and who waits; and how many threads were made is as the state says
   pub record Kept (a b : Account) (u : State P S H) : Type 0 where
     pub turn : b.turn ≡ a.turn
     pub moment : b.moment ≡ a.moment
     pub canceled : b.canceled ≡ None
     pub made : b.made ≡ u.control.threads.made
     pub nobody : b.ended 0 ≡ a.ended 0
-    pub waited : (v : ℕ) → a.waited v ≡ true → b.waited v ≡ true
+
+  -- a call blocks t, if it is in the system
+  abbrev pub IsBlocked : ℕ → Control P S H → Type 0
+  IsBlocked t k = is_some (k.threads.progress t) ≡ true → is_some (blocked_of k t) ≡ true
 
   -- by what comes next for t
   abbrev pub IsLeft : ℕ → Account → Next → Account → State P S H → Type 0
-  IsLeft t a (next.Done x) b u = Kept a b u × (b.running ≡ Some t)
-  IsLeft t a (next.Yields x) b u = Kept a b u × (b.running ≡ None) × (blocked_of u.control t ≡ None)
-  IsLeft t a next.Waits b u = Kept a b u × (b.running ≡ None) × (b.waited t ≡ true)
-  IsLeft t a (next.Ended v) b u = Kept a b u × (b.running ≡ None) × (u.control.scheduler.running ≢ Some t)
+  IsLeft t a (next.Done x) b u = Kept a b u × (b.waiting ≡ a.waiting) × (b.running ≡ Some t)
+  IsLeft t a (next.Yields x) b u = Kept a b u × (b.waiting ≡ a.waiting) × (b.running ≡ None) × (blocked_of u.control t ≡ None)
+  IsLeft t a next.Waits b u = Kept a b u × (b.waiting ≡ put a.waiting t true) × (b.running ≡ None) × IsBlocked t u.control
+  IsLeft t a (next.Ended v) b u = Kept a b u × (b.waiting ≡ a.waiting) × (b.running ≡ None) × (u.control.scheduler.running ≢ Some t)
   -- a run that is killed goes no further
   IsLeft t a next.Killed b u = Unit {0}
 
@@ -106,7 +109,7 @@ turn_runs a t h =
     let two = and_parts (is_none a.canceled) (is_thread a.running t) one.0 in
     (none_is a.canceled two.0, thread_is a.running t two.1, one.1)
 
-up_made : (a : Account) (t : ℕ) → is_up a t ≡ true → is_made a.made t ≡ true
+pub up_made : (a : Account) (t : ℕ) → is_up a t ≡ true → is_made a.made t ≡ true
 up_made a t h = (and_parts (is_made a.made t) (not (a.ended t)) h).0
 
 module _ {P S H : Type 0} (t : ℕ) where
@@ -117,10 +120,10 @@ module _ {P S H : Type 0} (t : ℕ) where
   in_state a s u same i = record { turn = i.turn; made = i.made ∙ sym same }
 
   kept_so : (a : Account) (s : State P S H) → In a s → Kept a a s
-  kept_so a s i = record { turn = refl; moment = refl; canceled = (turn_runs a t i.turn).0; made = i.made; nobody = refl; waited = λ v h. h }
+  kept_so a s i = record { turn = refl; moment = refl; canceled = (turn_runs a t i.turn).0; made = i.made; nobody = refl }
 
   goes_on_so : (x : Answer) (a : Account) (s : State P S H) → In a s → IsLeft t a (next.Done x) a s
-  goes_on_so x a s i = (kept_so a s i, (turn_runs a t i.turn).1)
+  goes_on_so x a s i = (kept_so a s i, refl, (turn_runs a t i.turn).1)
 
   -- ---- one mark, and what comes next
 
@@ -138,18 +141,25 @@ module _ {P S H : Type 0} (t : ℕ) where
       let m = mark.Answered (tid t) c (answer.Int (pos 1)) in
       record { to = account_after a m; leads = leads_one a m (and_both (has_turn a t) (is_next_made a.made c (answer.Int (pos 1))) i.turn fits); left = tt }
 
-  waits_left : (a : Account) (u : State P S H) → In a u → IsLeft t a next.Waits (waits a t) u
-  waits_left a u i = (
-    record { turn = refl; moment = refl; canceled = (turn_runs a t i.turn).0; made = i.made; nobody = refl; waited = λ v h. put_by (λ b. b ≡ true) a.waited t true v (λ here. refl) (λ other. h) },
-    refl,
-    put_here a.waited t true,
-  )
+  -- a call blocks t from now on
+  blocked_so : (d : Blocked) (k : Control P S H) → IsBlocked t (is_blocked_by t (Some d) k)
+  unfolding goes_on
+  blocked_so d k there =
+      let same = put_here k.threads.progress t (option_map (blocking (Some d)) (k.threads.progress t)) in
+      ap (λ p. is_some (blocked_in p)) same ∙ by_progress (k.threads.progress t) (ap is_some (sym same) ∙ there)
+    where
+      by_progress : (p : Option (Progress S)) → is_some (option_map (blocking (Some d)) p) ≡ true → is_some (blocked_in (option_map (blocking (Some d)) p)) ≡ true
+      by_progress None h = h
+      by_progress (Some p) h = refl
 
-  pub waits_step : (c : Call) (a : Account) (u : State P S H) → In a u → Steps t a (record { told = tells (mark.Waits (tid t) c) u; next = next.Waits })
-  waits_step c a u i = record { to = waits a t; leads = leads_one a (mark.Waits (tid t) c) i.turn; left = waits_left a (tells (mark.Waits (tid t) c) u).state (record { turn = i.turn; made = i.made }) }
+  waits_left : (a : Account) (u : State P S H) → In a u → IsBlocked t u.control → IsLeft t a next.Waits (waits a t) u
+  waits_left a u i blocked = (record { turn = refl; moment = refl; canceled = (turn_runs a t i.turn).0; made = i.made; nobody = refl }, refl, refl, blocked)
 
-  retakes_step : (c : Call) (a : Account) (u : State P S H) → In a u → Steps t a (record { told = tells (mark.Retakes (tid t) c) u; next = next.Waits })
-  retakes_step c a u i = record { to = waits a t; leads = leads_one a (mark.Retakes (tid t) c) i.turn; left = waits_left a (tells (mark.Retakes (tid t) c) u).state (record { turn = i.turn; made = i.made }) }
+  pub waits_step : (c : Call) (a : Account) (u : State P S H) → In a u → IsBlocked t u.control → Steps t a (record { told = tells (mark.Waits (tid t) c) u; next = next.Waits })
+  waits_step c a u i blocked = record { to = waits a t; leads = leads_one a (mark.Waits (tid t) c) i.turn; left = waits_left a (tells (mark.Waits (tid t) c) u).state (record { turn = i.turn; made = i.made }) blocked }
+
+  retakes_step : (c : Call) (a : Account) (u : State P S H) → In a u → IsBlocked t u.control → Steps t a (record { told = tells (mark.Retakes (tid t) c) u; next = next.Waits })
+  retakes_step c a u i blocked = record { to = waits a t; leads = leads_one a (mark.Retakes (tid t) c) i.turn; left = waits_left a (tells (mark.Retakes (tid t) c) u).state (record { turn = i.turn; made = i.made }) blocked }
 
   -- t ends
   end_step : (f : P → Functions S H) (v : ℤ) (a : Account) (s : State P S H) → In a s → Steps t a (record { told = ending f t v s; next = next.Ended v })
@@ -160,7 +170,7 @@ module _ {P S H : Type 0} (t : ℕ) where
       record {
         to = b;
         leads = subst (λ (o : Option ℕ). Leads a (ending f t v s).marks (ends a o t)) r.0 (e.leads a (turn_may_end a t i.turn));
-        left = (record { turn = refl; moment = refl; canceled = r.0; made = i.made ∙ sym e.made; nobody = put_other a.ended t true 0 (not_nobody a.made t (up_made a t r.2)); waited = λ v h. h }, refl, e.gone);
+        left = (record { turn = refl; moment = refl; canceled = r.0; made = i.made ∙ sym e.made; nobody = put_other a.ended t true 0 (not_nobody a.made t (up_made a t r.2)) }, refl, refl, e.gone);
       }
 
   -- ---- what comes before
@@ -190,16 +200,18 @@ module _ {P S H : Type 0} (f : P → Functions S H) (t : ℕ) where
     to : Account
     leads : Leads a x.marks to
     kept : Kept a to x.state
+    waiting : to.waiting ≡ a.waiting
     turn : has_turn to t ≡ true
 
   nothing_ends : (u : ℕ) (a : Account) (s y : State P S H) → IsMadeAs s y → InTurn t a s → Others u a s (record { state = y; marks = [] })
-  nothing_ends u a s y same i = record { to = a; leads = leads_nowhere a; kept = kept_so t a y (in_state t a s y same i); turn = i.turn }
+  nothing_ends u a s y same i = record { to = a; leads = leads_nowhere a; kept = kept_so t a y (in_state t a s y same i); waiting = refl; turn = i.turn }
 
   other_ends : (u : ℕ) (a : Account) (s : State P S H) → t ≢ u → is_up a u ≡ true → InTurn t a s → Others u a s (canceled_by_other f u s)
   other_ends u a s apart up i = record {
     to = c;
     leads = leads_then a (m ∷ []) (ending f u canceled_value (tells m s).state).marks b c (leads_one a m allowed) (e.leads b ends_now);
-    kept = record { turn = refl; moment = refl; canceled = refl; made = i.made ∙ sym e.made; nobody = put_other a.ended u true 0 (not_nobody a.made u (up_made a u up)); waited = λ v h. h };
+    kept = record { turn = refl; moment = refl; canceled = refl; made = i.made ∙ sym e.made; nobody = put_other a.ended u true 0 (not_nobody a.made u (up_made a u up)) };
+    waiting = refl;
     turn = and_both (is_thread a.running t) (is_made a.made t && not (put a.ended u true t)) (ap (λ o. is_thread o t) r.1 ∙ same_self t) (ap (λ e. is_made a.made t && not e) (put_other a.ended u true t apart) ∙ r.2);
   }
     where
@@ -232,7 +244,7 @@ module _ {P S H : Type 0} (f : P → Functions S H) (t : ℕ) where
       record {
         to = o.to;
         leads = leads_then a (p s).marks (m ∷ []) o.to o.to o.leads (record { allowed = (and_both (has_turn o.to t) (is_next_made o.to.made c (answer.Int (pos 1))) o.turn plain.1, tt); to = plain.0 });
-        left = (record { turn = o.kept.turn; moment = o.kept.moment; canceled = o.kept.canceled; made = o.kept.made; nobody = o.kept.nobody; waited = o.kept.waited }, (turn_runs o.to t o.turn).1);
+        left = (record { turn = o.kept.turn; moment = o.kept.moment; canceled = o.kept.canceled; made = o.kept.made; nobody = o.kept.nobody }, o.waiting, (turn_runs o.to t o.turn).1);
       }
 
   -- ---- a call begins
@@ -256,11 +268,11 @@ module _ {P S H : Type 0} (f : P → Functions S H) (t : ℕ) where
       m = mark.Answered (tid t) (call.Yield n) (answer.Int (pos 1))
 
       kept : (u : State P S H) → IsMadeAs s u → Kept a (record a { running = None }) u
-      kept u same = record { turn = refl; moment = refl; canceled = (turn_runs a t i.turn).0; made = i.made ∙ sym same; nobody = refl; waited = λ v h. h }
+      kept u same = record { turn = refl; moment = refl; canceled = (turn_runs a t i.turn).0; made = i.made ∙ sym same; nobody = refl }
 
       by_zero : (here : Bool) → Steps t a (record { told = (changes (if here then nothing else prefers (Some (number n))) and_then tells m) s; next = next.Yields (answer.Int (pos 1)) })
-      by_zero true = record { to = record a { running = None }; leads = leads_one a m (and_both (has_turn a t) true i.turn refl); left = (kept _ refl, refl, free) }
-      by_zero false = record { to = record a { running = None }; leads = leads_one a m (and_both (has_turn a t) true i.turn refl); left = (kept _ refl, refl, free) }
+      by_zero true = record { to = record a { running = None }; leads = leads_one a m (and_both (has_turn a t) true i.turn refl); left = (kept _ refl, refl, refl, free) }
+      by_zero false = record { to = record a { running = None }; leads = leads_one a m (and_both (has_turn a t) true i.turn refl); left = (kept _ refl, refl, refl, free) }
 
   yield_step : (n : ℤ) (refuse here : Bool) (a : Account) (s : State P S H) → blocked_of s.control t ≡ None → InTurn t a s → Steps t a (begun_as f t (call.Yield n) (refused EINVAL when refuse otherwise Yields (answer.Int (pos 1)) trying changes (if here then nothing else prefers (Some (number n)))) s)
   yield_step n true here a s free i = refused_step (call.Yield n) EINVAL a s i (refl, refl)
@@ -274,7 +286,7 @@ module _ {P S H : Type 0} (f : P → Functions S H) (t : ℕ) where
       record {
         to = record a { made = a.made + 1 };
         leads = leads_one a (mark.Answered (tid t) (call.Spawn b v k) (answer.Int (pos n))) (and_both (has_turn a t) (n == a.made + 1) i.turn (ap (λ made. n == made + 1) i.made ∙ same_self n));
-        left = (record { turn = refl; moment = refl; canceled = r.0; made = ap (λ made. made + 1) i.made; nobody = refl; waited = λ v h. h }, r.1);
+        left = (record { turn = refl; moment = refl; canceled = r.0; made = ap (λ made. made + 1) i.made; nobody = refl }, refl, r.1);
       }
 
   spawn_step : (b v k : ℤ) (of : NewThread) (below room : Bool) (values : Result NewThread Errno) (a : Account) (s : State P S H) → InTurn t a s → Steps t a (begun_as f t (call.Spawn b v k) (refused EINVAL when below otherwise refused_as values otherwise refused EAGAIN when room otherwise says (s.control.threads.made + 1) trying changes (spawns f (number b) v of)) s)
@@ -303,7 +315,7 @@ module _ {P S H : Type 0} (f : P → Functions S H) (t : ℕ) where
   aborted_other n a s it i =
       let u = controlled (sets (number n) (change.Joinable false) and sets (number n) (change.Cancel 3)) s in
       let o = other_ends (number n) a u it.0 it.1 (record { turn = i.turn; made = i.made }) in
-      record { to = o.to; leads = o.leads; kept = o.kept; turn = o.turn }
+      record { to = o.to; leads = o.leads; kept = o.kept; waiting = o.waiting; turn = o.turn }
 
   drops : (n : ℤ) (dead : Bool) (a : Account) (s : State P S H) → (dead ≡ false → (t ≢ number n) × (is_up a (number n) ≡ true)) → InTurn t a s → Others (number n) a s ((if dead then changes (removes (number n)) else aborted f (number n)) s)
   unfolding forgets leaves_queue
@@ -340,7 +352,7 @@ module _ {P S H : Type 0} (f : P → Functions S H) (t : ℕ) where
   verdict_step c (Yields x) a s unmarked still i = absurd (true≢false still)
   verdict_step c (Blocks y) a s unmarked still i =
       let u = controlled (λ k. blocks t c y (claims t (ring_given c) k)) s in
-      let w = waits_step t c a u (in_state t a s u (blocks_made (claims t (ring_given c) s.control) ∙ claims_made t (ring_given c) s.control) i) in
+      let w = waits_step t c a u (in_state t a s u (blocks_made (claims t (ring_given c) s.control) ∙ claims_made t (ring_given c) s.control) i) (blocked_so t (record { call = c; awaits = y }) (claims t (ring_given c) s.control)) in
       record { to = w.to; leads = w.leads; left = w.left }
     where
       blocks_made : (k : Control P S H) → (blocks t c y k).threads.made ≡ k.threads.made
@@ -385,7 +397,7 @@ module _ {P S H : Type 0} (f : P → Functions S H) (t : ℕ) where
 
       blocked_step : (y : Awaits) → Steps t a (tried_by f t d (Blocks y) s)
       blocked_step y =
-          let w = waits_step t d.call a (controlled (is_blocked_by t (Some (record d { awaits = y }))) s) (record { turn = i.turn; made = i.made }) in
+          let w = waits_step t d.call a (controlled (is_blocked_by t (Some (record d { awaits = y }))) s) (record { turn = i.turn; made = i.made }) (blocked_so t (record d { awaits = y }) s.control) in
           record { to = w.to; leads = w.leads; left = w.left }
 
       by_verdict : (v : Verdict) → is_unmarked d.call ≡ true → is_yielding v ≡ false → Steps t a (tried_by f t d v s)
@@ -431,7 +443,7 @@ module _ {P S H : Type 0} (f : P → Functions S H) (t : ℕ) where
   unfolding goes_on
   retakes_by true c m o a s unmarked i = retaken_step c m o a s unmarked i
   retakes_by false c m o a s unmarked i =
-      let y = retakes_step t c a (controlled (blocks t c (awaits.Retaking m o)) s) (record { turn = i.turn; made = i.made }) in
+      let y = retakes_step t c a (controlled (blocks t c (awaits.Retaking m o)) s) (record { turn = i.turn; made = i.made }) (blocked_so t (record { call = c; awaits = awaits.Retaking m o }) s.control) in
       record { to = y.to; leads = y.leads; left = y.left }
 
   await_ends : (g : Change P S H) (c : Call) (m : ℤ) (o : Retake) (a : Account) (s : State P S H) → ((k : Control P S H) → (g k).threads.made ≡ k.threads.made) → is_unmarked c ≡ true → InTurn t a s → Steps t a (ends_await f t g c m o s)
@@ -439,21 +451,21 @@ module _ {P S H : Type 0} (f : P → Functions S H) (t : ℕ) where
       let u = controlled (g and stops_waiting t) s in
       changed_finally t (g and stops_waiting t) (retakes f t c m o) a s (stops_made t (g s.control) ∙ same s.control) i (λ j. retakes_by (can_take u t m) c m o a u unmarked j)
 
-  awaits_step : (asked noticed settled : Bool) (c m e : ℤ) (a : Account) (s : State P S H) → InTurn t a s → Steps t a (awaits_on_where f t asked noticed settled (call.CondAwait c m e) c m s)
-  awaits_step true noticed settled c m e a s i =
+  awaits_step : (asked noticed settled : Bool) (c m e : ℤ) (a : Account) (s : State P S H) → is_some (blocked_of s.control t) ≡ true → InTurn t a s → Steps t a (awaits_on_where f t asked noticed settled (call.CondAwait c m e) c m s)
+  awaits_step true noticed settled c m e a s at i =
       let k = call.CondAwait c m e in
       let g : Change P S H = hands_on_seats t (record { what = awaits.Notice c; ring = ring_given k }) in
       quiet_finally t (takes_request t k) (ends_await f t g k m retake.Canceled) a s i (request_quiet t k s) (λ j. await_ends g k m retake.Canceled a (takes_request t k s).state (λ x. seat_made t (awaits.Notice c) x) refl j)
-  awaits_step false true settled c m e a s i = await_ends (leaves_seat t (awaits.Notice c)) (call.CondAwait c m e) m retake.Notified a s (leaves_seat_made t (awaits.Notice c)) refl i
-  awaits_step false false true c m e a s i = await_ends (leaves_seat t (awaits.Notice c)) (call.CondAwait c m e) m retake.Interrupted a s (leaves_seat_made t (awaits.Notice c)) refl i
-  awaits_step false false false c m e a s i = waits_step t (call.CondAwait c m e) a s i
+  awaits_step false true settled c m e a s at i = await_ends (leaves_seat t (awaits.Notice c)) (call.CondAwait c m e) m retake.Notified a s (leaves_seat_made t (awaits.Notice c)) refl i
+  awaits_step false false true c m e a s at i = await_ends (leaves_seat t (awaits.Notice c)) (call.CondAwait c m e) m retake.Interrupted a s (leaves_seat_made t (awaits.Notice c)) refl i
+  awaits_step false false false c m e a s at i = waits_step t (call.CondAwait c m e) a s i (λ there. at)
 
-  awaits_on_step : (c m e : ℤ) (b : Awaits) (a : Account) (s : State P S H) → InTurn t a s → Steps t a (awaits_on f t c m e b s)
-  awaits_on_step c m e (awaits.Retaking n o) a s i = await_ends nothing (call.CondAwait c m e) m o a s (λ k. refl) refl i
-  awaits_on_step c m e b a s i = awaits_step (may_be_canceled s.control t) (is_noticed s t c) (has_settled s.control.events (extra_ring e)) c m e a s i
+  awaits_on_step : (c m e : ℤ) (b : Awaits) (a : Account) (s : State P S H) → is_some (blocked_of s.control t) ≡ true → InTurn t a s → Steps t a (awaits_on f t c m e b s)
+  awaits_on_step c m e (awaits.Retaking n o) a s at i = await_ends nothing (call.CondAwait c m e) m o a s (λ k. refl) refl i
+  awaits_on_step c m e b a s at i = awaits_step (may_be_canceled s.control t) (is_noticed s t c) (has_settled s.control.events (extra_ring e)) c m e a s at i
 
   in_step : (c : Call) (b : Awaits) (a : Account) (s : State P S H) → blocked_of s.control t ≡ Some (record { call = c; awaits = b }) → InTurn t a s → Steps t a (gone_on_in f t c b s)
-  in_step (call.CondAwait c m e) b a s at i = awaits_on_step c m e b a s i
+  in_step (call.CondAwait c m e) b a s at i = awaits_on_step c m e b a s (ap is_some at) i
   in_step c b a s at i = where_step (may_be_canceled s.control t) (record { call = c; awaits = b }) a s at i
 
   gone_on_step : (d : Blocked) (a : Account) (s : State P S H) → blocked_of s.control t ≡ Some d → InTurn t a s → Steps t a (gone_on f t s)

@@ -25,12 +25,12 @@ pub record Account : Type 0 where
   -- how many threads were made, and who has ended
   pub made : ℕ
   pub ended : ℕ → Bool
-  -- who has waited since its last dispatch
-  pub waited : ℕ → Bool
+  -- who waits: from its wait until it is woken
+  pub waiting : ℕ → Bool
 
 -- before the first mark there is the main thread, and nobody's turn
 abbrev pub first_account : Account
-first_account = record { turn = 0; moment = 0; running = None; canceled = None; made = 1; ended = λ t. false; waited = λ t. false }
+first_account = record { turn = 0; moment = 0; running = None; canceled = None; made = 1; ended = λ t. false; waiting = λ t. false }
 
 -- ---- whether a mark is allowed
 
@@ -63,9 +63,9 @@ module _ (a : Account) where
   may_end t = is_thread (speaker a.canceled a.running) t && is_up t
 
   abbrev pub is_allowed : Mark → Bool
-  is_allowed (mark.Dispatch turn at t rank waited allowed) = is_none a.running && (turn == a.turn + 1) && nat_le a.moment at && is_up t.0
+  is_allowed (mark.Dispatch turn at t rank waited allowed) = is_none a.running && (turn == a.turn + 1) && nat_le a.moment at && is_up t.0 && not (a.waiting t.0)
   is_allowed (mark.Moved at) = is_none a.running && nat_lt a.moment at
-  is_allowed (mark.Woke t rank) = is_none a.running && a.waited t.0 && is_up t.0
+  is_allowed (mark.Woke t rank) = is_none a.running && a.waiting t.0 && is_up t.0
   is_allowed (mark.Answered t c x) = has_turn t.0 && is_next_made a.made c x
   is_allowed (mark.Waits t c) = has_turn t.0
   is_allowed (mark.Retakes t c) = has_turn t.0
@@ -92,7 +92,7 @@ module _ (a : Account) where
 
   -- t waits, and gives up control
   abbrev pub waits : ℕ → Account
-  waits t = record a { running = None; waited = put a.waited t true }
+  waits t = record a { running = None; waiting = put a.waiting t true }
 
   -- t ends; by: who is canceled
   abbrev pub ends : Option ℕ → ℕ → Account
@@ -100,8 +100,9 @@ module _ (a : Account) where
   ends None t = record a { running = None; ended = put a.ended t true }
 
   abbrev pub account_after : Mark → Account
-  account_after (mark.Dispatch turn at t rank waited allowed) = record a { turn = turn; moment = at; running = Some t.0; waited = put a.waited t.0 false }
+  account_after (mark.Dispatch turn at t rank waited allowed) = record a { turn = turn; moment = at; running = Some t.0 }
   account_after (mark.Moved at) = record a { moment = at }
+  account_after (mark.Woke t rank) = record a { waiting = put a.waiting t.0 false }
   account_after (mark.Answered t c x) = answered c x
   account_after (mark.Waits t c) = waits t.0
   account_after (mark.Retakes t c) = waits t.0
