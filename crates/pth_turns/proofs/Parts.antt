@@ -585,7 +585,7 @@ module _ {P S H : Type 0} where
       let turn : has_turn a t ≡ true = and_both _ (is_up a t) (and_both (is_none a.canceled) (is_thread a.running t) (ap is_none h.canceled) (ap (λ o. is_thread o t) runs ∙ same_self t)) own in
       let y = steps_on_step f t a s there up (record { turn = turn; made = h.made }) in
       let z = step_keeps f t (KeptPlaces t a (now_of s.control) a.made) (steady_by_calls f (λ v. (v ≢ t) × DoesWait a v) (λ v. (v ≢ t) × WaitsNot a v) t (now_of s.control) a.made not_made) x s
-          (record { places = record { waiters = λ v it. (h.aside t running v (inl it), h.places.waiters v it); runners = λ v it. (h.aside t running v (inr it), h.places.runners v it); once = h.places.once }; moment = refl; running = inl running; grown = omega (arith, h.made) }) in
+      (record { places = record { waiters = λ v it. (h.aside t running v (inl it), h.places.waiters v it); runners = λ v it. (h.aside t running v (inr it), h.places.runners v it); once = h.places.once }; moment = refl; running = inl running; grown = omega (arith, h.made) }) in
       record { to = y.to; leads = y.leads; fits = λ on. left_fits (record x { steps = x.steps + 1 }) t (now_of s.control) w.next a y.to w.told.state none h.turn h.moment h.early h.nobody (up_made a t own) (h.free t none running) h.of_made goes y.left z on }
     where
       above : (n v : ℕ) → n < v → is_made n v ≡ true → ⊥

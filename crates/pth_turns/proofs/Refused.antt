@@ -1,6 +1,7 @@
--- Lists that the law of turns refuses: the mark that is not allowed, in each of them.
-use Rattle.std.proofs.Common.{sym}
+-- Lists that the law of turns refuses: the mark that is not allowed, in each of them. And a list that it takes.
+use Rattle.std.proofs.Common.{refl, sym}
 use Rattle.std.proofs.lemmas.Bool.{true≢false}
+use Rattle.pth_base.specs.Table.{put}
 use Rattle.pth_turns.specs.Examples
 use Rattle.pth_turns.specs.Turns.{InTurns}
 
@@ -44,18 +45,22 @@ pub no_a_wake_of_who_did_not_wait : InTurns Examples.a_wake_of_who_did_not_wait 
 no_a_wake_of_who_did_not_wait h = true≢false (sym h.1.1.1.0)
 
 pub no_a_wake_comes_twice : InTurns Examples.a_wake_comes_twice → ⊥
+unfolding put
 no_a_wake_comes_twice h = true≢false (sym h.1.1.1.1.1.1.0)
 
 pub no_a_dispatch_of_who_waits : InTurns Examples.a_dispatch_of_who_waits → ⊥
+unfolding put
 no_a_dispatch_of_who_waits h = true≢false (sym h.1.1.1.1.1.0)
 
 pub no_an_answer_after_the_end : InTurns Examples.an_answer_after_the_end → ⊥
 no_an_answer_after_the_end h = true≢false (sym h.1.1.1.1.1.0)
 
 pub no_a_dispatch_after_the_end : InTurns Examples.a_dispatch_after_the_end → ⊥
+unfolding put
 no_a_dispatch_after_the_end h = true≢false (sym h.1.1.1.1.1.0)
 
 pub no_a_wake_after_the_end : InTurns Examples.a_wake_after_the_end → ⊥
+unfolding put
 no_a_wake_after_the_end h = true≢false (sym h.1.1.1.1.1.1.1.1.1.0)
 
 pub no_an_end_in_anothers_turn : InTurns Examples.an_end_in_anothers_turn → ⊥
@@ -69,3 +74,9 @@ no_a_cancellation_of_its_own_from_outside h = true≢false (sym h.1.1.0)
 
 pub no_a_dispatch_after_a_kill : InTurns Examples.a_dispatch_after_a_kill → ⊥
 no_a_dispatch_after_a_kill h = true≢false (sym h.1.1.1.0)
+
+-- ---- taken
+
+pub all_allowed : InTurns Examples.a_nap_and_a_cancellation
+unfolding put
+all_allowed = (refl, (refl, (refl, (refl, (refl, (refl, (refl, (refl, (refl, (refl, (refl, (refl, (refl, (refl, (refl, tt)))))))))))))))
