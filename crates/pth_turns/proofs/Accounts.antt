@@ -1,6 +1,6 @@
 -- Accounts of marks, and lists of marks that lead from one account to another.
-use Rattle.std.proofs.Common.{◌≡◌, ℕ, ◌==◌, ◌&&◌, not, Bool, true, false, List, [], ◌∷◌, ◌++◌, Option, Some, None, is_none, is_some, refl, sym, ◌∙◌, ap, subst}
-use Rattle.std.proofs.lemmas.Bool.{true≢false, and_parts}
+use Rattle.std.proofs.Common.{◌≡◌, ℕ, ◌&&◌, true, List, [], ◌∷◌, ◌++◌, Option, Some, None, is_none, refl, sym, subst}
+use Rattle.std.proofs.lemmas.Bool.{true≢false}
 use Rattle.pth_base.specs.declared.mark.Mark.{Mark}
 use Rattle.pth_turns.specs.Turns.{Account, AreAllowed, is_allowed, account_after, is_thread, speaker, is_up, has_turn, may_end}
 

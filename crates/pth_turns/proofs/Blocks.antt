@@ -1,6 +1,6 @@
 -- What a thread tells of handlers and destructors, and of what it gives back, in its own turn or as it is canceled in another's: it
 -- leaves the account as it is, and makes no thread.
-use Rattle.std.proofs.Common.{◌≡◌, ◌≢◌, ◌==◌, ℕ, zero, suc, ◌+◌, ◌*◌, not, Bool, true, false, if◌then◌else◌, ℤ, pos, List, [], ◌∷◌, ◌++◌, map, Option, Some, None, refl, sym, ◌∙◌, ap, subst}
+use Rattle.std.proofs.Common.{◌≡◌, ◌≢◌, ◌==◌, ℕ, zero, suc, ◌+◌, ◌*◌, not, Bool, true, false, if◌then◌else◌, ℤ, List, [], ◌∷◌, map, Option, Some, None, refl, ◌∙◌}
 use Rattle.std.proofs.lemmas.Option.{none-some, same_Some}
 use Rattle.pth_base.specs.Program.{Functions}
 use Rattle.pth_base.proofs.Tables.{same_fails}
@@ -9,19 +9,17 @@ use Rattle.pth_base.specs.declared.act.Act.TheVariants as act
 use Rattle.pth_base.specs.declared.ids.HandlerId.{HandlerId}
 use Rattle.pth_base.specs.declared.mark.Mark.{Mark}
 use Rattle.pth_base.specs.declared.mark.Mark.TheVariants as mark
-use Rattle.pth_base.specs.declared.thread.ThreadState.TheVariants as state
 use Rattle.pth_cond.specs.Conditions.{cond_notified}
 use Rattle.pth_cond.specs.Barriers.{waits_at, withdrawn}
 use Rattle.pth_lock.specs.Objects.{object_named}
 use Rattle.pth_numbered.specs.Operands.{is_zero}
 use Rattle.pth_store.specs.Cleanups.{PushedHandler}
 use Rattle.pth_store.specs.Keys.{key_limit}
-use Rattle.pth_model.specs.declared.awaits.Awaited.{Awaited}
 use Rattle.pth_model.specs.declared.awaits.Awaits.{Awaits}
 use Rattle.pth_model.specs.declared.awaits.Awaits.TheVariants as awaits
 use Rattle.pth_model.specs.declared.destructors.Due.{Due}
 use Rattle.pth_model.specs.declared.destructors.Round.{Round}
-use Rattle.pth_model.specs.State.{State, Control, Threads}
+use Rattle.pth_model.specs.State.{State, Control}
 use Rattle.pth_model.specs.Transition.{Transition, Piece, Change, silent, nothing, changes, tells, tells_each, tid, controlled, where_so, ◌and◌, ◌and_then◌}
 use Rattle.pth_model.specs.Changes.{shares, with_conditions, with_barriers, goes_on, is_blocked_by, blocked_of, or_nobody, entry_of, removes, leaves_queue, sets, enters, forgets}
 use Rattle.pth_model.specs.Row.{refuses, unless_refused}
@@ -62,10 +60,6 @@ module _ {P S H : Type 0} where
     blocks_then p q s x y =
         let next = y (p s).state in
         record { leads = λ a h. leads_then a (p s).marks (q (p s).state).marks a a (x.leads a h) (next.leads a h); made = next.made ∙ x.made }
-
-    -- a change, and what follows it
-    blocks_changed : (s u : State P S H) (x : Transition P S H) → IsMadeAs s u → Blocks t u x → Blocks t s x
-    blocks_changed s u x same h = record { leads = h.leads; made = h.made ∙ same }
 
     -- a change, refused or not, and a mark
     effect_block : (b : Bool) (g : Change P S H) (m : Mark) (s : State P S H) → IsOfBlock t m → ((k : Control P S H) → (g k).threads.made ≡ k.threads.made) → Blocks t s ((unless_refused b (changes g) and_then tells m) s)

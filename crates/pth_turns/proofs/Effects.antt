@@ -1,5 +1,5 @@
 -- What calls tell before their answers: in the turn of their thread it leaves the account as it is. And only a spawn makes a thread.
-use Rattle.std.proofs.Common.{◌≡◌, ℕ, not, Bool, true, false, if◌then◌else◌, ℤ, pos, List, [], ◌∷◌, Option, Some, None, refl, sym, ◌∙◌, ap}
+use Rattle.std.proofs.Common.{◌≡◌, ℕ, not, Bool, true, false, if◌then◌else◌, ℤ, [], Option, Some, None, refl, sym}
 use Rattle.std.proofs.lemmas.Bool.{true≢false}
 use Rattle.pth_base.specs.Program.{Functions}
 use Rattle.pth_base.specs.declared.answer.Answer.{Answer}
@@ -25,26 +25,26 @@ use Rattle.pth_threads.specs.Attributes.{change_of}
 use Rattle.pth_model.specs.declared.awaits.Awaits.{Awaits}
 use Rattle.pth_model.specs.declared.awaits.Awaits.TheVariants as awaits
 use Rattle.pth_model.specs.declared.verdict.Verdict.{Verdict}
-use Rattle.pth_model.specs.declared.verdict.Verdict.TheVariants.{Says, Yields, Blocks, Ends, Kills}
+use Rattle.pth_model.specs.declared.verdict.Verdict.TheVariants.{Says, Blocks}
 use Rattle.pth_model.specs.Awaits.{round_in}
 use Rattle.pth_model.specs.AttributeHandling.{object, sets_field, sets_value}
 use Rattle.pth_model.specs.Barriers.{tries_round}
 use Rattle.pth_model.specs.Calls.{interrupted, unless_settled}
 use Rattle.pth_model.specs.Cancellation.{takes_request, is_to_cancel}
-use Rattle.pth_model.specs.Changes.{sets, enters, leaves_queue, removes, forgets, uses, or_nobody, entry_of, queue_for, with_barriers}
+use Rattle.pth_model.specs.Changes.{sets, enters, leaves_queue, forgets, uses, or_nobody, entry_of, queue_for, with_barriers}
 use Rattle.pth_model.specs.Cleanups.{runs_pushed, last_pushed}
 use Rattle.pth_model.specs.Acts.{runs_handler}
 use Rattle.pth_model.specs.EventHandling.{spec_of, made_as}
 use Rattle.pth_model.specs.LibraryControl.{ctrl}
 use Rattle.pth_model.specs.Resources.{handler}
-use Rattle.pth_model.specs.Row.{Attempt, unless_refused, refuses, effect_of, ◌trying◌}
+use Rattle.pth_model.specs.Row.{unless_refused, refuses, effect_of, ◌trying◌}
 use Rattle.pth_model.specs.Rows.{row_of}
-use Rattle.pth_model.specs.State.{State, Control}
+use Rattle.pth_model.specs.State.{State}
 use Rattle.pth_model.specs.ThreadControl.{suspends, resumes, returns_to, to_join, takes_joined}
-use Rattle.pth_model.specs.Transition.{Transition, Piece, Change, silent, nothing, changes, tells, tid, controlled, where_so, ◌and◌, ◌and_then◌}
+use Rattle.pth_model.specs.Transition.{Transition, Piece, Change, silent, nothing, changes, tid, controlled, where_so, ◌and_then◌}
 use Rattle.pth_turns.specs.Turns.{Account, has_turn, answered, is_next_made}
-use Rattle.pth_turns.proofs.Accounts.{Leads, leads_nowhere, leads_one, leads_then, turn_may_end}
-use Rattle.pth_turns.proofs.Blocks.{IsMadeAs, Blocks as BlockOf, blocks_none, blocks_then, handler_block}
+use Rattle.pth_turns.proofs.Accounts.{Leads, leads_nowhere, leads_one, turn_may_end}
+use Rattle.pth_turns.proofs.Blocks.{IsMadeAs, Blocks as BlockOf, handler_block}
 
 -- calls that leave the account as it is, whatever they are answered
 abbrev pub is_unmarked : Call → Bool

@@ -1,5 +1,5 @@
 -- Every run is in turns.
-use Rattle.std.proofs.Common.{◌≡◌, ◌≤◌, ℕ, zero, suc, ◌==◌, ◌&&◌, ◌||◌, not, Bool, true, false, List, [], ◌∷◌, ◌++◌, All, Option, Some, None, is_some, ◌⊎◌, inl, inr, refl, sym, ◌∙◌, ap, subst, arith, append-nil}
+use Rattle.std.proofs.Common.{◌≡◌, ◌≤◌, ℕ, zero, suc, ◌==◌, ◌||◌, not, Bool, true, false, List, [], ◌∷◌, ◌++◌, Option, Some, None, ◌⊎◌, inl, inr, refl, sym, ◌∙◌, ap, subst, arith, append-nil}
 use Rattle.std.specs.List.{list_any}
 use Rattle.std.proofs.lemmas.Bool.{true≢false}
 use Rattle.std.proofs.lemmas.Option.{none-some}
@@ -20,12 +20,12 @@ use Rattle.pth_queue.specs.declared.queue.Queue.TheVariants.{Waiting}
 use Rattle.pth_threads.specs.declared.entry.Entry.{Entry}
 use Rattle.pth_model.specs.Changes.{or_nobody, holders}
 use Rattle.pth_model.specs.Course.{Course, followed}
-use Rattle.pth_model.specs.Living.{is_dead, is_made, lives}
+use Rattle.pth_model.specs.Living.{is_made, lives}
 use Rattle.pth_model.specs.Part.{Part, Move, Take, Step, Close, Halt, next_part, next_part_by, unless_ended, is_idle, part, part_by, takes, moves}
 use Rattle.pth_model.specs.Pass.{moment}
 use Rattle.pth_model.specs.Run.{parts, run}
 use Rattle.pth_model.specs.Standing.{raises_of}
-use Rattle.pth_model.specs.State.{State, Control, Given, Turn, start, no_turn, queue, main, main_entry}
+use Rattle.pth_model.specs.State.{State, Given, Turn, start, no_turn, queue, main, main_entry}
 use Rattle.pth_laws.specs.Marks.{is_end_of}
 use Rattle.pth_laws.specs.Tied.{IsTiedTo}
 use Rattle.pth_laws.specs.Valid.{IsValid, Lives}
@@ -33,10 +33,10 @@ use Rattle.pth_laws.proofs.EveryRun.{run_steps, run_tied, run_valid}
 use Rattle.pth_laws.proofs.Living.{lives_some}
 use Rattle.pth_turns.specs.Turns.{Account, InTurns, first_account, account_after, answered, ends, is_up}
 use Rattle.pth_turns.proofs.Accounts.{Leads, account_of, leads_nowhere, leads_then}
-use Rattle.pth_turns.proofs.Parts.{Fits, HasWaited, Leaves, Rests, ahead, moved_leaves, take_leaves, takes_made, takes_outcome, close_leaves, step_leaves}
+use Rattle.pth_turns.proofs.Parts.{Fits, HasWaited, Leaves, ahead, moved_leaves, take_leaves, takes_made, takes_outcome, close_leaves, step_leaves}
 use Rattle.pth_turns.proofs.Progress.{run_there}
 use Rattle.pth_turns.proofs.Steps.{and_both}
-use Rattle.pth_turns.proofs.Waiting.{all_at, shown_in, state_at, Waits, Waiters}
+use Rattle.pth_turns.proofs.Waiting.{all_at, shown_in, Waits, Waiters}
 
 -- ---- who has ended, by the account and by the marks
 

@@ -1,5 +1,5 @@
 -- The parts of a run: between two of them the account of the marks fits the state.
-use Rattle.std.proofs.Common.{◌≡◌, ◌≢◌, ◌≤◌, ◌<◌, ℕ, zero, suc, ◌+◌, ◌==◌, ◌&&◌, ◌||◌, not, min, nat_le, nat_lt, Bool, true, false, if◌then◌else◌, ℤ, pos, ◌+ℤ◌, List, [], ◌∷◌, ◌++◌, reverse, All, Option, Some, None, is_none, is_some, option_map, ◌⊎◌, inl, inr, refl, sym, ◌∙◌, ap, subst, arith}
+use Rattle.std.proofs.Common.{◌≡◌, ◌≢◌, ◌≤◌, ◌<◌, ℕ, zero, suc, ◌+◌, ◌==◌, ◌&&◌, not, min, nat_le, nat_lt, Bool, true, false, if◌then◌else◌, ℤ, pos, ◌+ℤ◌, List, [], ◌∷◌, reverse, All, Option, Some, None, is_none, is_some, option_map, ◌⊎◌, inl, inr, refl, sym, ◌∙◌, ap, subst, arith}
 use Rattle.std.proofs.lemmas.Bool.{true≢false, and_parts}
 use Rattle.std.proofs.lemmas.Bool.Decides.{nat_tests}
 use Rattle.std.proofs.lemmas.List.Elements.{All-nil, All-cons, All-head, All-tail, All-filter}
@@ -11,7 +11,6 @@ use Rattle.pth_base.specs.Program.{Functions}
 use Rattle.pth_base.specs.Table.{put}
 use Rattle.pth_base.specs.declared.mark.Mark.{Mark}
 use Rattle.pth_base.specs.declared.mark.Mark.TheVariants as mark
-use Rattle.pth_base.specs.declared.outcome.Outcome.{Outcome}
 use Rattle.pth_base.specs.declared.outcome.Outcome.TheVariants as outcome
 use Rattle.pth_base.specs.declared.thread.ThreadState.TheVariants as state
 use Rattle.pth_base.proofs.Tables.{same_self, same_means, same_fails, put_here, put_other, put_by}
@@ -36,9 +35,9 @@ use Rattle.pth_model.specs.State.{State, Control, Turn, queue, now_of, clock_of,
 use Rattle.pth_model.specs.Transition.{controlled, tells, tid}
 use Rattle.pth_model.proofs.Once.{shown-all}
 use Rattle.pth_model.proofs.Walks.{step_keeps}
-use Rattle.pth_turns.specs.Turns.{Account, AreAllowed, is_allowed, account_after, is_thread, is_up, has_turn}
+use Rattle.pth_turns.specs.Turns.{Account, is_thread, is_up, has_turn}
 use Rattle.pth_turns.proofs.Accounts.{Leads, leads_nowhere, leads_one, leads_then}
-use Rattle.pth_turns.proofs.Steps.{Kept, IsLeft, Steps, InTurn, AreUp, steps_on_step, and_both, up_made}
+use Rattle.pth_turns.proofs.Steps.{IsLeft, AreUp, steps_on_step, and_both, up_made}
 use Rattle.pth_laws.proofs.Along.{standers}
 use Rattle.pth_laws.proofs.Living.{made_more}
 use Rattle.pth_turns.proofs.Waiting.{all_standing, shown_once, filtered_once, head_out, Waits, Waiters, waiters_put, ToRun, Stands, Named, HasState, Places, places_so, places_ready, places_run, places_waiting, places_put_back, other_state, ready_other, RunsOrNone, Steady, steady_by_calls}

@@ -1,7 +1,6 @@
 -- A step of a thread: its marks are allowed in its turn, and what they say of the thread is what comes next for it.
-use Rattle.std.proofs.Common.{◌≡◌, ◌≢◌, ℕ, zero, suc, ◌+◌, ◌==◌, ◌&&◌, ◌||◌, not, Bool, true, false, if◌then◌else◌, ℤ, pos, negsuc, List, [], ◌∷◌, ◌++◌, Option, Some, None, is_none, is_some, option_map, Result, Ok, Err, refl, sym, ◌∙◌, ap, subst}
+use Rattle.std.proofs.Common.{◌≡◌, ◌≢◌, ℕ, zero, suc, ◌+◌, ◌==◌, ◌&&◌, ◌||◌, not, Bool, true, false, if◌then◌else◌, ℤ, pos, [], ◌∷◌, Option, Some, None, is_none, is_some, option_map, Result, Ok, Err, refl, sym, ◌∙◌, ap, subst}
 use Rattle.std.proofs.lemmas.Bool.{true≢false, and_parts, not-false}
-use Rattle.std.proofs.lemmas.Option.{none-some, same_Some}
 use Rattle.pth_base.specs.Program.{Functions, Stepped}
 use Rattle.pth_base.specs.Table.{put}
 use Rattle.pth_base.specs.declared.answer.Answer.{Answer}
@@ -12,7 +11,7 @@ use Rattle.pth_base.specs.declared.errno.Errno.{Errno}
 use Rattle.pth_base.specs.declared.errno.Errno.TheVariants.{EAGAIN, EINTR, EINVAL, EPERM, ESRCH}
 use Rattle.pth_base.specs.declared.mark.Mark.{Mark}
 use Rattle.pth_base.specs.declared.mark.Mark.TheVariants as mark
-use Rattle.pth_base.proofs.Tables.{same_self, not_same, same_means, same_fails, put_here, put_other, put_by}
+use Rattle.pth_base.proofs.Tables.{same_self, not_same, same_means, put_here, put_other}
 use Rattle.pth_lock.specs.Objects.{object_named}
 use Rattle.pth_numbered.specs.Operands.{number, is_zero, is_below, ◌is◌}
 use Rattle.pth_threads.specs.declared.entry.Change.TheVariants as change
@@ -28,24 +27,23 @@ use Rattle.pth_model.specs.declared.progress.Progress.{Progress}
 use Rattle.pth_model.specs.declared.verdict.Verdict.{Verdict}
 use Rattle.pth_model.specs.declared.verdict.Verdict.TheVariants.{Says, Yields, Blocks, Ends, Kills}
 use Rattle.pth_model.specs.Verdict.{refused, says, ◌when◌otherwise◌, refused_as◌otherwise◌}
-use Rattle.pth_model.specs.Awaits.{is_await}
-use Rattle.pth_model.specs.Calls.{begun, begun_by, begun_as, blocks, answers, gone_on, gone_on_where, canceled_by, tried, tried_again, tried_again_by, tried_by, unless_settled, retaken_as, retakes_where, retakes, ends_await, awaits_on_where, awaits_on, gone_on_in, gone_on_by}
+use Rattle.pth_model.specs.Calls.{begun, begun_by, begun_as, blocks, gone_on, gone_on_where, canceled_by, tried_again, tried_again_by, tried_by, unless_settled, retaken_as, retakes_where, retakes, ends_await, awaits_on_where, awaits_on, gone_on_in, gone_on_by}
 use Rattle.pth_model.specs.Cancellation.{canceled_value, is_asynchronous, may_be_canceled, takes_request, canceled_in, canceled_by_other, aborted}
-use Rattle.pth_model.specs.Changes.{sets, removes, forgets, leaves_queue, enters, makes, goes_on, is_blocked_by, blocking, blocked_in, blocked_of, or_nobody, entry_of, prefers}
+use Rattle.pth_model.specs.Changes.{sets, removes, forgets, leaves_queue, enters, makes, goes_on, is_blocked_by, blocking, blocked_in, blocked_of, or_nobody, prefers}
 use Rattle.pth_model.specs.Conditions.{can_take, is_noticed, leaves_seat, hands_on_seats}
 use Rattle.pth_model.specs.Ending.{ending}
 use Rattle.pth_model.specs.LibraryControl.{vanish_all_but}
 use Rattle.pth_model.specs.Living.{is_dead, is_made, lives}
 use Rattle.pth_model.specs.Part.{steps_on, steps_by, stepping}
 use Rattle.pth_model.specs.RingWaits.{claims, extra_ring, ring_given, has_settled, stops_waiting}
-use Rattle.pth_model.specs.Row.{Attempt, unless_refused, refuses, effect_of, ◌trying◌}
+use Rattle.pth_model.specs.Row.{effect_of, ◌trying◌}
 use Rattle.pth_model.specs.Rows.{row_of}
 use Rattle.pth_model.specs.State.{State, Control, main}
 use Rattle.pth_model.specs.ThreadControl.{thread, is_known, may_run, spawns, values_for, or_first, has_room}
-use Rattle.pth_model.specs.Transition.{Transition, Went, Piece, Change, Last, silent, nothing, changes, tells, tid, controlled, ◌and◌, ◌and_then◌, ◌and_next◌, ◌and_finally◌}
+use Rattle.pth_model.specs.Transition.{Transition, Went, Piece, Change, Last, nothing, changes, tells, tid, controlled, ◌and◌, ◌and_then◌, ◌and_finally◌}
 use Rattle.pth_model.proofs.Walks.{named_other, named_lives}
 use Rattle.pth_laws.proofs.Going.{known_lives}
-use Rattle.pth_turns.specs.Turns.{Account, AreAllowed, is_allowed, account_after, is_thread, is_up, has_turn, may_end, answered, is_next_made, waits, ends}
+use Rattle.pth_turns.specs.Turns.{Account, is_allowed, account_after, is_thread, is_up, has_turn, may_end, answered, is_next_made, waits, ends}
 use Rattle.pth_turns.proofs.Accounts.{Leads, leads_nowhere, leads_one, leads_then, turn_may_end}
 use Rattle.pth_turns.proofs.Blocks.{IsMadeAs, EndsAs, ending_as, claims_made, stops_made, seat_made, leaves_seat_made}
 use Rattle.pth_turns.proofs.Effects.{is_unmarked, unmarked_stays, is_plain, Quiet, quiet_change, request_quiet, effect_quiet, again_quiet}
@@ -342,9 +340,6 @@ module _ {P S H : Type 0} (f : P → Functions S H) (t : ℕ) where
       let p : Piece P S H = if dead then changes (removes (number n)) else aborted f (number n) in
       then_answered (number n) (call.Abort n) p a s refl (drops n dead a s (λ alive. named_up n a s up x (not-false _ y) alive) i)
 
-  not_yielding : (v : Verdict) (x : Answer) → v ≡ Yields x → is_yielding v ≡ false → ⊥
-  not_yielding v x yields none = true≢false (sym (ap is_yielding yields) ∙ none)
-
   -- as the verdict says, of a call that leaves the account whatever it is answered
   verdict_step : (c : Call) (v : Verdict) (a : Account) (s : State P S H) → is_unmarked c ≡ true → is_yielding v ≡ false → InTurn t a s → Steps t a (begun_by f t c v s)
   unfolding goes_on
@@ -473,10 +468,6 @@ module _ {P S H : Type 0} (f : P → Functions S H) (t : ℕ) where
   gone_on_step d a s at i = subst (λ (o : Option Blocked). Steps t a (gone_on_by f t o s)) (sym at) (in_step d.call d.awaits a s at i)
 
   -- ---- a step
-
-  some_is : {A : Type 0} (o : Option A) → is_some o ≡ true → o ≡ None → ⊥
-  some_is None h none = true≢false (sym h)
-  some_is (Some x) h none = absurd (cc none)
 
   steps_by_step : (o : Option Blocked) (p : Option (Progress S)) (a : Account) (s : State P S H) → blocked_of s.control t ≡ o → s.control.threads.progress t ≡ p → is_some p ≡ true → AreUp a s → InTurn t a s → Steps t a (steps_by f t o p s)
   unfolding goes_on

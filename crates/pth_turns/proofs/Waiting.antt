@@ -1,6 +1,6 @@
 -- Who stands among the waiting threads, or has the state of one: what the parts of a run keep of it. And what a step keeps of the moment
 -- and of who runs.
-use Rattle.std.proofs.Common.{◌≡◌, ◌≢◌, ◌≤◌, ◌<◌, ℕ, ◌+◌, ◌==◌, not, Bool, true, false, if◌then◌else◌, ℤ, pos, ◌+ℤ◌, List, [], ◌∷◌, map, filter, All, Option, Some, None, option_map, ◌⊎◌, inl, inr, refl, sym, ◌∙◌, ap, subst, arith}
+use Rattle.std.proofs.Common.{◌≡◌, ◌≢◌, ◌≤◌, ◌<◌, ℕ, ◌+◌, ◌==◌, not, Bool, true, false, if◌then◌else◌, ℤ, pos, List, [], ◌∷◌, map, filter, All, Option, Some, None, option_map, ◌⊎◌, inl, inr, refl, sym, ◌∙◌, ap, subst, arith}
 use Rattle.std.proofs.lemmas.Bool.{true≢false}
 use Rattle.std.proofs.lemmas.List.Elements.{All-nil, All-cons, All-head, All-tail}
 use Rattle.std.proofs.lemmas.Option.{none-some, same_Some}
@@ -9,23 +9,21 @@ use Rattle.pth_queue.specs.declared.ranked.Ranked.{Ranked}
 use Rattle.pth_base.specs.Chain.{StandsIn, Distinct}
 use Rattle.pth_base.specs.Program.{Functions}
 use Rattle.pth_base.specs.Table.{put}
-use Rattle.pth_base.specs.declared.attr.AttrValue.{AttrValue}
 use Rattle.pth_base.specs.declared.thread.ThreadState.{ThreadState}
 use Rattle.pth_base.specs.declared.thread.ThreadState.TheVariants as state
 use Rattle.pth_base.proofs.Tables.{same_means, same_fails, put_by, put_other}
 use Rattle.pth_queue.specs.declared.queue.Queue.{Queue}
 use Rattle.pth_queue.specs.declared.queue.Queue.TheVariants.{New, Ready, Waiting, Suspended, Dead}
-use Rattle.pth_threads.specs.Attributes.{change_of}
 use Rattle.pth_threads.specs.Threads.{changed, made_of}
 use Rattle.pth_threads.specs.declared.entry.Change.{Change}
 use Rattle.pth_threads.specs.declared.entry.Change.TheVariants as change
 use Rattle.pth_threads.specs.declared.entry.Entry.{Entry}
 use Rattle.pth_threads.specs.declared.entry.NewThread.{NewThread}
-use Rattle.pth_model.specs.Standing.{Standing, is_queue, left_by, raises_of, height, put_behind, order, row_at, shown}
+use Rattle.pth_model.specs.Standing.{Standing, is_queue, left_by, raises_of, put_behind, order, row_at, shown}
 use Rattle.pth_model.specs.State.{Control, Scheduler, Threads}
 use Rattle.pth_model.specs.Changes.{sets, enters, leaves_queue, makes, forgets, removes, goes_on, prefers, or_nobody, entry_of, queue_for, holders}
 use Rattle.pth_model.specs.Ending.{leaves, is_dead_with, other_than}
-use Rattle.pth_model.specs.LibraryControl.{vanish_all_but, only_at}
+use Rattle.pth_model.specs.LibraryControl.{vanish_all_but}
 use Rattle.pth_model.specs.Pass.{is_ready_at}
 use Rattle.pth_model.specs.ThreadControl.{may_run, spawns, suspends, resumes, returns_to}
 use Rattle.pth_model.specs.declared.progress.Progress.{Progress}
