@@ -2,7 +2,8 @@
 -- was not made or has ended, or is woken who did not wait (pth_spawn, pth_yield, pth_cancel, pth_exit).
 --
 -- Whoever reads marks in order keeps an account of them. It alone says whether the next mark is allowed.
-use Rattle.std.specs.Prelude.{◌≡◌, ℕ, ◌+◌, ◌==◌, ◌&&◌, not, nat_le, nat_lt, Bool, true, false, List, [], ◌∷◌, Option, Some, None, is_some, is_none}
+use Rattle.std.specs.Prelude.{◌≡◌, ◌≤◌, ℕ, ◌+◌, ◌==◌, ◌&&◌, not, nat_le, nat_lt, Bool, true, false, List, [], ◌∷◌, Option, Some, None, is_some, is_none}
+use Rattle.pth_base.specs.Limits.{last_moment}
 use Rattle.pth_base.specs.Table.{put}
 use Rattle.pth_base.specs.declared.answer.Answer.{Answer}
 use Rattle.pth_base.specs.declared.answer.Answer.TheVariants.{Int}
@@ -12,6 +13,7 @@ use Rattle.pth_base.specs.declared.mark.Mark.{Mark}
 use Rattle.pth_base.specs.declared.mark.Mark.TheVariants as mark
 use Rattle.pth_numbered.specs.Operands.{◌is◌}
 use Rattle.pth_model.specs.Living.{is_made}
+use Rattle.pth_model.specs.State.{Given}
 
 -- what the marks so far say
 pub record Account : Type 0 where
@@ -119,3 +121,7 @@ AreAllowed a (m ∷ marks) = (is_allowed a m ≡ true) × AreAllowed (account_af
 
 abbrev pub InTurns : List Mark → Type 0
 InTurns marks = AreAllowed first_account marks
+
+-- a run starts no later than at the last moment
+abbrev pub StartsInTime : {P : Type 0} → Given P → Type 0
+StartsInTime g = g.kernel.now ≤ last_moment

@@ -1,12 +1,11 @@
 //! Marks in turns.
 
-ghost use Rattle.std.specs.Prelude.{◌≤◌, ◌++◌, ℕ, List};
-ghost use Rattle.pth_base.specs.Limits.{last_moment};
+ghost use Rattle.std.specs.Prelude.{◌++◌, ℕ, List};
 ghost use Rattle.pth_base.specs.declared.mark.Mark.{Mark};
 ghost use Rattle.pth_model.specs.Run.{run};
 ghost use Rattle.pth_model.specs.State.{Given};
 ghost use Rattle.pth_turns.specs.Examples.{a_cancellation_of_its_own_from_outside, a_dispatch_after_a_kill, a_dispatch_after_the_end, a_dispatch_of_nobody, a_dispatch_of_who_waits, a_dispatch_within_a_turn, a_line_after_a_wait, a_line_after_a_yield, a_line_in_anothers_turn, a_line_while_another_ends, a_moment_falls, a_nap_and_a_cancellation, a_spawn_skips_a_number, a_turn_comes_again, a_turn_is_skipped, a_wake_after_the_end, a_wake_comes_twice, a_wake_of_who_did_not_wait, a_wake_within_a_turn, an_answer_after_the_end, an_end_in_anothers_turn, time_moves_back, time_moves_within_a_turn};
-ghost use Rattle.pth_turns.specs.Turns.{InTurns};
+ghost use Rattle.pth_turns.specs.Turns.{InTurns, StartsInTime};
 
 use pth_base::program::Program;
 
@@ -15,7 +14,7 @@ use pth_base::program::Program;
 /// wakes and moves of time, which come between turns; a turn lasts from a dispatch until its thread waits, yields or ends; nobody has a
 /// mark who was not made or has ended; who is woken waits, and who is dispatched does not.
 pub fn every_run_is_in_turns<P: Program>()
-    ensures { (g : Given P) (i : ℕ) → g.kernel.now ≤ last_moment → InTurns (run P.functions g i).marks }
+    ensures { (g : Given P) (i : ℕ) → StartsInTime g → InTurns (run P.functions g i).marks }
 {}
 
 /// Marks in another thread's turn, or in nobody's: a line of a thread that has not the turn, or has given it up with a yield or a wait,
