@@ -18,7 +18,7 @@ use Rattle.pth_store.specs.Keys.{key_limit}
 use Rattle.pth_model.specs.declared.awaits.Awaits.{Awaits}
 use Rattle.pth_model.specs.declared.awaits.Awaits.TheVariants as awaits
 use Rattle.pth_model.specs.declared.destructors.Due.{Due}
-use Rattle.pth_model.specs.declared.destructors.Round.{Round}
+use Rattle.pth_model.specs.declared.destructors.DestructorRound.{DestructorRound}
 use Rattle.pth_model.specs.State.{State, Control}
 use Rattle.pth_model.specs.Transition.{Transition, Piece, Change, silent, nothing, changes, tells, tells_each, tid, controlled, where_so, ◌and◌, ◌and_then◌}
 use Rattle.pth_model.specs.Changes.{shares, with_conditions, with_barriers, goes_on, is_blocked_by, blocked_of, or_nobody, entry_of, removes, leaves_queue, sets, enters, forgets}
@@ -103,7 +103,7 @@ module _ {P S H : Type 0} where
     each_block [] s = blocks_none t s
     each_block (c ∷ cs) s = blocks_then t (runs_handler f t c.0 c.1) (runs_each f t cs) s (handler_block c.0 c.1 s) (each_block cs)
 
-    due_block : (o : Option Due) (next : Round → Piece P S H) → ((r : Round) (s : State P S H) → Blocks t s (next r s)) → (s : State P S H) → Blocks t s (destructs_by f t o next s)
+    due_block : (o : Option Due) (next : DestructorRound → Piece P S H) → ((r : DestructorRound) (s : State P S H) → Blocks t s (next r s)) → (s : State P S H) → Blocks t s (destructs_by f t o next s)
     due_block None next goes s = blocks_none t s
     due_block (Some d) next goes s =
         blocks_then t (tells (mark.Destructor (tid t) d.key d.value) and_then handled f t d.handler d.value) (next d.round) s
@@ -111,7 +111,7 @@ module _ {P S H : Type 0} where
         (record { leads = λ a own. leads_one a (mark.Destructor (tid t) d.key d.value) own; made = refl }) (handled_block d.handler d.value))
         (goes d.round)
 
-    destructs_block : (n : ℕ) (r : Round) (s : State P S H) → Blocks t s (destructs f t n r s)
+    destructs_block : (n : ℕ) (r : DestructorRound) (s : State P S H) → Blocks t s (destructs f t n r s)
     unfolding destructs
     destructs_block zero r s = blocks_none t s
     destructs_block (suc n) r s = due_block (next_destructor s.resources.store.keys t r) (destructs f t n) (destructs_block n) s

@@ -538,7 +538,7 @@ module _ {P S H : Type 0} where
         places = left_places t now a b (owes_after t (next.Yields y) u.control) c z;
         of_made = left_made t now a b (owes_after t (next.Yields y) u.control) c l.0.made of_made z;
       }
-  left_fits x t now next.Waits a b u none turn moment early nobody there free of_made goes l z on =
+  left_fits x t now next.Blocks a b u none turn moment early nobody there free of_made goes l z on =
       let c = changed_put t a b there l.1 in
       record {
         turn = l.0.turn ∙ turn;

@@ -26,7 +26,8 @@ use Rattle.pth_model.specs.declared.next.Next.TheVariants as next
 use Rattle.pth_model.specs.declared.progress.Progress.{Progress}
 use Rattle.pth_model.specs.declared.verdict.Verdict.{Verdict}
 use Rattle.pth_model.specs.declared.verdict.Verdict.TheVariants.{Says, Yields, Blocks, Ends, Kills}
-use Rattle.pth_model.specs.Verdict.{refused, says, ◌when◌otherwise◌, refused_as◌otherwise◌}
+use Rattle.pth_numbered.specs.Clauses.{◌when◌otherwise◌}
+use Rattle.pth_model.specs.Verdict.{refused, says, refused_as◌otherwise◌}
 use Rattle.pth_model.specs.Calls.{begun, begun_by, begun_as, blocks, gone_on, gone_on_where, canceled_by, tried_again, tried_again_by, tried_by, unless_settled, retaken_as, retakes_where, retakes, ends_await, awaits_on_where, awaits_on, gone_on_in, gone_on_by}
 use Rattle.pth_model.specs.Cancellation.{canceled_value, is_asynchronous, may_be_canceled, takes_request, canceled_in, canceled_by_other, aborted}
 use Rattle.pth_model.specs.Changes.{sets, removes, forgets, leaves_queue, enters, makes, goes_on, is_blocked_by, blocking, blocked_in, blocked_of, or_nobody, prefers}
@@ -68,7 +69,7 @@ module _ {P S H : Type 0} where
   abbrev pub IsLeft : ℕ → Account → Next → Account → State P S H → Type 0
   IsLeft t a (next.Done x) b u = Kept a b u × (b.waiting ≡ a.waiting) × (b.running ≡ Some t)
   IsLeft t a (next.Yields x) b u = Kept a b u × (b.waiting ≡ a.waiting) × (b.running ≡ None) × (blocked_of u.control t ≡ None)
-  IsLeft t a next.Waits b u = Kept a b u × (b.waiting ≡ put a.waiting t true) × (b.running ≡ None) × IsBlocked t u.control
+  IsLeft t a next.Blocks b u = Kept a b u × (b.waiting ≡ put a.waiting t true) × (b.running ≡ None) × IsBlocked t u.control
   IsLeft t a (next.Ended v) b u = Kept a b u × (b.waiting ≡ a.waiting) × (b.running ≡ None) × (u.control.scheduler.running ≢ Some t)
   -- a run that is killed goes no further
   IsLeft t a next.Killed b u = Unit {0}
@@ -150,13 +151,13 @@ module _ {P S H : Type 0} (t : ℕ) where
       by_progress None h = h
       by_progress (Some p) h = refl
 
-  waits_left : (a : Account) (u : State P S H) → In a u → IsBlocked t u.control → IsLeft t a next.Waits (waits a t) u
+  waits_left : (a : Account) (u : State P S H) → In a u → IsBlocked t u.control → IsLeft t a next.Blocks (waits a t) u
   waits_left a u i blocked = (record { turn = refl; moment = refl; canceled = (turn_runs a t i.turn).0; made = i.made; nobody = refl }, refl, refl, blocked)
 
-  pub waits_step : (c : Call) (a : Account) (u : State P S H) → In a u → IsBlocked t u.control → Steps t a (record { told = tells (mark.Waits (tid t) c) u; next = next.Waits })
+  pub waits_step : (c : Call) (a : Account) (u : State P S H) → In a u → IsBlocked t u.control → Steps t a (record { told = tells (mark.Waits (tid t) c) u; next = next.Blocks })
   waits_step c a u i blocked = record { to = waits a t; leads = leads_one a (mark.Waits (tid t) c) i.turn; left = waits_left a (tells (mark.Waits (tid t) c) u).state (record { turn = i.turn; made = i.made }) blocked }
 
-  retakes_step : (c : Call) (a : Account) (u : State P S H) → In a u → IsBlocked t u.control → Steps t a (record { told = tells (mark.Retakes (tid t) c) u; next = next.Waits })
+  retakes_step : (c : Call) (a : Account) (u : State P S H) → In a u → IsBlocked t u.control → Steps t a (record { told = tells (mark.Retakes (tid t) c) u; next = next.Blocks })
   retakes_step c a u i blocked = record { to = waits a t; leads = leads_one a (mark.Retakes (tid t) c) i.turn; left = waits_left a (tells (mark.Retakes (tid t) c) u).state (record { turn = i.turn; made = i.made }) blocked }
 
   -- t ends

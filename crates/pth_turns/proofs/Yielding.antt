@@ -22,7 +22,8 @@ use Rattle.pth_model.specs.declared.verdict.Verdict.TheVariants.{Says, Yields, B
 use Rattle.pth_model.specs.Awaits.{round_in}
 use Rattle.pth_model.specs.State.{State, Control}
 use Rattle.pth_model.specs.Transition.{Change, changes, silent}
-use Rattle.pth_model.specs.Verdict.{refused, says, said_or, counts_or, by_result, taken_or, ◌when◌otherwise◌, refused_as◌otherwise◌}
+use Rattle.pth_numbered.specs.Clauses.{count_or, ◌when◌otherwise◌}
+use Rattle.pth_model.specs.Verdict.{refused, says, said_or, by_result, taken_or, refused_as◌otherwise◌}
 use Rattle.pth_model.specs.Barriers.{arrived_as, tries_round}
 use Rattle.pth_model.specs.Calls.{interrupted, unless_settled}
 use Rattle.pth_model.specs.Changes.{with_barriers}
@@ -65,8 +66,8 @@ said_none : (o : Option Answer) (v : Verdict) → is_yielding v ≡ false → is
 said_none (Some a) v none = refl
 said_none None v none = none
 
-counts_none : (n : ℕ) (e : Errno) → is_yielding (counts_or n e) ≡ false
-counts_none n e = when_none (says n) (nat_lt 0 n) (refused e) refl refl
+counts_none : (n : ℕ) (e : Errno) → is_yielding (Says (count_or n e)) ≡ false
+counts_none n e = refl
 
 interrupted_none : (v : Verdict) → is_yielding v ≡ false → is_yielding (interrupted v) ≡ false
 interrupted_none (Says a) none = refl
@@ -87,7 +88,7 @@ trial_none k a = refl
 reach_none : (b : ℤ) (o : Result Arrival Errno) → is_yielding (by_result (arrived_as b) o) ≡ false
 reach_none b (Err e) = refl
 reach_none b (Ok arrival.Tail) = refl
-reach_none b (Ok (arrival.Waits round)) = refl
+reach_none b (Ok (arrival.Incomplete round)) = refl
 
 module _ {P S H : Type 0} where
   abbrev tries_as : State P S H → (t : ℕ) → ℤ → ℕ → Bool → Attempt P S H
