@@ -1,0 +1,4 @@
+pub mod Placed
+pub mod Kernels
+pub mod Endings
+pub mod Rows

@@ -1,0 +1,4 @@
+//! When the runs of two programs agree.
+#![tactic(auto)]
+
+pub mod runs;
