@@ -1,12 +1,13 @@
 -- A kernel with another trace, of which the same came up to now: what it answers, and what becomes of it.
-use Rattle.std.proofs.Common.{◌≡◌, ℕ, ℤ, ◌-◌, ◌&&◌, ◌||◌, nat_lt, length, drop, sum_by, flat_map, filter_map, Bool, List, Option, Some, None, is_some, true, false, ◌∙◌, if◌then◌else◌, refl, ap, ap₂}
+use Rattle.std.proofs.Common.{◌≡◌, ℕ, ℤ, pos, negsuc, ◌==◌, ◌-◌, ◌&&◌, ◌||◌, nat_lt, length, drop, sum_by, flat_map, filter_map, Bool, List, Option, Some, None, is_some, true, false, ◌∙◌, if◌then◌else◌, refl, ap, ap₂}
 use Rattle.std.specs.List.{list_any}
 use Rattle.pth_base.specs.declared.answer.Answer.{Answer}
 use Rattle.pth_base.specs.declared.answer.Answer.TheVariants as answer
 use Rattle.pth_kernel.specs.Entries.{bytes_brought, room_brought, connection_brought, settling_brought, is_eof, is_exception, is_failure}
 use Rattle.pth_kernel.specs.declared.trace.Entry.{Entry}
 use Rattle.pth_kernel.specs.declared.trace.Stamp.{Stamp}
-use Rattle.pth_kernel.specs.Kernel.{Kernel, came_to, unread, room, connections, connected, is_fd_live, is_readable, is_writeable, is_exceptional, earliest, room_used, connection_accepted, fd_named}
+use Rattle.pth_kernel.specs.Kernel.{Kernel, came_to, unread, room, connections, connected, is_fd_live, is_readable, is_writeable, is_exceptional, earliest, room_used, connection_accepted, with_mode, fd_named}
+use Rattle.pth_kernel.specs.Modes.{sets_mode}
 use Rattle.pth_io.specs.Attempts.{read_answer, write_answer, accept_answer, connect_answer, select_answer, fits, written, taken_by, read_after, write_after, accept_after, is_any_ready}
 use Rattle.pth_model.specs.Coming.{descriptors_bring}
 use Rattle.pth_model.specs.Io.{trial_for, answered_or_waits}
@@ -16,6 +17,15 @@ use Rattle.pth_model.specs.declared.awaits.Awaits.TheVariants as awaits
 -- of this trace the same came up to now
 abbrev pub ShowsSame : List Stamp → Kernel → Type 0
 ShowsSame trace k = came_to (record k { trace = trace }) ≡ came_to k
+
+-- a mode that is set
+mode_by : (trace : List Stamp) (d m : ℕ) (b : Bool) (k : Kernel) → (if b then record k { trace = trace } else with_mode d m (record k { trace = trace })) ≡ record (if b then k else with_mode d m k) { trace = trace }
+mode_by trace d m true k = refl
+mode_by trace d m false k = refl
+
+pub mode_sets : (trace : List Stamp) (d : ℕ) (m : ℤ) (k : Kernel) → sets_mode d m (record k { trace = trace }) ≡ record (sets_mode d m k) { trace = trace }
+mode_sets trace d (pos m) k = mode_by trace d m (m == 0) k
+mode_sets trace d (negsuc m) k = refl
 
 module _ (trace : List Stamp) (k : Kernel) (shows : ShowsSame trace k) where
   abbrev other : Kernel

@@ -2,3 +2,4 @@ pub mod Placed
 pub mod Kernels
 pub mod Endings
 pub mod Rows
+pub mod Calls
