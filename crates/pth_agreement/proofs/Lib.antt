@@ -6,3 +6,4 @@ pub mod Calls
 pub mod Passes
 pub mod Parts
 pub mod WholeRuns
+pub mod LongerScripts

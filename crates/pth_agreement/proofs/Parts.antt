@@ -19,12 +19,17 @@ use Rattle.pth_model.specs.Part.{Part, Move, Take, Step, Close, Halt, next_part,
 use Rattle.pth_model.specs.Pass.{pass, is_ready_at, moment}
 use Rattle.pth_model.specs.State.{State, Control, Turn, queue, now_of, clock_of}
 use Rattle.pth_model.specs.Transition.{Transition, Went, Last, Change, silent, nothing, changes, controlled, tells, ◌and◌, ◌and_then◌, ◌and_finally◌}
-use Rattle.pth_agreement.specs.Agreement.{StepAlikeBy}
 use Rattle.pth_agreement.proofs.Placed.{Bare, placed, placed_control, moved, gone, AreSame, DoSame, and_same, changes_same, then_at, then_same, finally_at}
 use Rattle.pth_agreement.proofs.Kernels.{ShowsSame}
 use Rattle.pth_agreement.proofs.Endings.{stepping_so}
 use Rattle.pth_agreement.proofs.Calls.{begun_same, gone_on_same}
 use Rattle.pth_agreement.proofs.Passes.{pass_same}
+
+-- by: what call blocks a thread, and how far the thread is. If no call blocks it, a step asks its program for the next call.
+abbrev pub StepAlikeBy : {S H : Type 0} → (a b : Functions S H) → Option Blocked → Option (Progress S) → H → Type 0
+StepAlikeBy a b None (Some p) shared = b.step p.state shared p.owed ≡ a.step p.state shared p.owed
+StepAlikeBy a b None None shared = Unit {0}
+StepAlikeBy a b (Some c) p shared = Unit {0}
 
 module _ {P S H : Type 0} (p : P) (trace : List Stamp) where
   abbrev pub placed_course : Course (Unit {0}) S H → Course P S H

@@ -8,19 +8,19 @@ use Rattle.pth_kernel.specs.declared.trace.Stamp.{Stamp}
 use Rattle.pth_kernel.specs.Moments.{least_after}
 use Rattle.pth_model.specs.declared.blocked.Blocked.{Blocked}
 use Rattle.pth_model.specs.declared.progress.Progress.{Progress}
-use Rattle.pth_model.specs.Changes.{raises_ready, moves_to, blocked_of}
+use Rattle.pth_model.specs.Changes.{raises_ready, moves_to, blocked_in, blocked_of}
 use Rattle.pth_model.specs.Course.{Course, followed}
 use Rattle.pth_model.specs.Part.{Part, Move, Take, Step, Close, Halt, next_part, part, is_put_back, is_put_waiting, placed_by, is_placed, turn_ends}
 use Rattle.pth_model.specs.Pass.{moment, moments}
 use Rattle.pth_model.specs.Run.{parts, run}
 use Rattle.pth_model.specs.State.{State, Control, Given, Turn, start, now_of, clock_of}
 use Rattle.pth_model.specs.Transition.{controlled}
-use Rattle.pth_agreement.specs.Agreement.{DifferInSteps, StepAlike, StepAlikeBy, StepsAlikeUpTo, with_program}
+use Rattle.pth_agreement.specs.Agreement.{DifferInSteps, AsksForCall, StepsAlikeUpTo, with_program}
 use Rattle.pth_agreement.proofs.Placed.{Bare, placed, placed_control}
 use Rattle.pth_agreement.proofs.Kernels.{ShowsSame}
 use Rattle.pth_agreement.proofs.Endings.{stepping_so}
 use Rattle.pth_agreement.proofs.Passes.{moments_same}
-use Rattle.pth_agreement.proofs.Parts.{placed_course, StepSame, PartSame, next_part_same, part_same}
+use Rattle.pth_agreement.proofs.Parts.{StepAlikeBy, placed_course, StepSame, PartSame, next_part_same, part_same}
 
 -- what is given, with no program
 abbrev pub bare_given : {P : Type 0} → Given P → Given (Unit {0})
@@ -78,6 +78,15 @@ gives_own a None (Some p) shared = refl
 gives_own a None None shared = tt
 gives_own a (Some c) o shared = tt
 
+-- if two programs give the same to each thread that asks
+gives_asked : {S H : Type 0} (a b : Functions S H) (o : Option (Progress S)) (shared : H) → ((p : Progress S) → o ≡ Some p → p.blocked ≡ None → b.step p.state shared p.owed ≡ a.step p.state shared p.owed) → StepAlikeBy a b (blocked_in o) o shared
+gives_asked a b None shared same = tt
+gives_asked {S = S} {H = H} a b (Some p) shared same = by_call p.blocked refl
+  where
+    by_call : (c : Option Blocked) → p.blocked ≡ c → StepAlikeBy a b c (Some p) shared
+    by_call None free = same p refl free
+    by_call (Some c) blocked = tt
+
 module _ {S H : Type 0} (h : Unit {0} → Functions S H) where
   -- so it is the same with that trace put in its place
   pub run_own : (g : Given (Unit {0})) (i : ℕ) → run h g i ≡ placed_course tt g.kernel.trace (run h g i)
@@ -120,8 +129,12 @@ module _ {P S H : Type 0} (f : P → Functions S H) where
           let c = run (own g.program) (bare_given g) j in
           own_part q trace f step c.state (next_part c.state c.turn) (own_trace (own g.program) (bare_given g) j) (λ t next.
           let same_run = run_bare g j in
-          let here : next_part (run f g j).state (run f g j).turn ≡ Step t = ap (λ (c : Course P S H). next_part c.state c.turn) same_run ∙ next_part_same g.program trace c.state c.turn ∙ next in
-          subst (λ (c : Course P S H). StepAlike (f g.program) (f q) c.state t) same_run (alike j t before here)) in
+          gives_asked (f g.program) (f q) (c.state.control.threads.progress t) c.state.control.shared (λ o at free.
+          subst (λ (d : Course P S H). (f q).step o.state d.state.control.shared o.owed ≡ (f g.program).step o.state d.state.control.shared o.owed) same_run (alike j t o before (record {
+            steps = ap (λ (d : Course P S H). next_part d.state d.turn) same_run ∙ next_part_same g.program trace c.state c.turn ∙ next;
+            is_so_far = ap (λ (d : Course P S H). d.state.control.threads.progress t) same_run ∙ at;
+            unblocked = free;
+          })))) in
       run_same q trace f step (bare_given g) i (subst (λ (h : Unit {0} → Functions S H). (j : ℕ) → j < i → let c = run h (bare_given g) j in PartSame q trace f step c.state (next_part c.state c.turn)) (sym same) asked)
       ∙ ap (λ (h : Unit {0} → Functions S H). placed_course q trace (run h (bare_given g) i)) same
       ∙ sym (ap (with_program q) (run_bare g i))

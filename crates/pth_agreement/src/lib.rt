@@ -2,3 +2,4 @@
 #![tactic(auto)]
 
 pub mod runs;
+pub mod scripts;

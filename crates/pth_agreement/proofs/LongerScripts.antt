@@ -1,0 +1,83 @@
+-- A script with further lines at the end of a body: which steps give the same.
+use Rattle.std.proofs.Common.{◌≡◌, ◌≢◌, ◌<◌, ℕ, zero, suc, List, [], ◌∷◌, ◌++◌, length, slice_get, slice_index_or, option_and_then, Option, Some, None, ℤ, refl, ap, sym, ◌∙◌, subst, not-suc-le-zero, le_of_suc-le-suc}
+use Rattle.pth_base.specs.declared.answer.Answer.{Answer}
+use Rattle.pth_base.specs.declared.answer.Answer.TheVariants as answer
+use Rattle.pth_line.specs.LineSteps.{stepped, does_next}
+use Rattle.pth_line.specs.Script.{Sections, functions_of}
+use Rattle.pth_line.specs.declared.line.Line.{Line}
+use Rattle.pth_operand.specs.LastAnswer.{kept, number_of_answer, heard, heard_for, heard_into, held}
+use Rattle.pth_operand.specs.Values.{Scope, scope, put_register}
+use Rattle.pth_operand.specs.declared.cells.Cells.{Cells}
+use Rattle.pth_operand.specs.declared.frame.Frame.{Frame}
+use Rattle.pth_operand.specs.declared.frame.Owed.{Owed}
+use Rattle.pth_operand.specs.declared.frame.Owed.TheVariants as owed
+use Rattle.pth_operand.specs.declared.operand.Register.{Register}
+use Rattle.pth_operand.specs.declared.operand.Register.TheVariants as reg
+use Rattle.pth_model.specs.Run.{run}
+use Rattle.pth_model.specs.State.{Given}
+use Rattle.pth_agreement.specs.Agreement.{DifferInSteps, with_program}
+use Rattle.pth_agreement.specs.Scripts.{lines_added, longer, NeverAtEndUpTo}
+use Rattle.pth_agreement.proofs.WholeRuns.{programs_agree}
+
+-- as many bodies, and the same lines but at the end of body b
+as_many : (b : ℕ) (lines : List Line) (bodies : List (List Line)) → length (lines_added b lines bodies) ≡ length bodies
+as_many b lines [] = refl
+as_many zero lines (x ∷ xs) = refl
+as_many (suc b) lines (x ∷ xs) = ap suc (as_many b lines xs)
+
+same_before : (x lines : List Line) (n : ℕ) → n < length x → slice_get (x ++ lines) n ≡ slice_get x n
+same_before [] lines n before = absurd (not-suc-le-zero before)
+same_before (y ∷ x) lines zero before = refl
+same_before (y ∷ x) lines (suc n) before = same_before x lines n (le_of_suc-le-suc before)
+
+-- the line at which a thread stands
+abbrev line_of : List (List Line) → (body line : ℕ) → Option Line
+line_of bodies body line = option_and_then (λ lines. slice_get lines line) (slice_get bodies body)
+
+same_line : (b : ℕ) (lines : List Line) (bodies : List (List Line)) (body n : ℕ) → (body ≡ b → n < length (slice_index_or bodies b [])) → line_of (lines_added b lines bodies) body n ≡ line_of bodies body n
+same_line b lines [] body n before = refl
+same_line zero lines (x ∷ xs) zero n before = same_before x lines n (before refl)
+same_line zero lines (x ∷ xs) (suc body) n before = refl
+same_line (suc b) lines (x ∷ xs) zero n before = refl
+same_line (suc b) lines (x ∷ xs) (suc body) n before = same_line b lines xs body n (λ same. before (ap suc same))
+
+-- where a thread stands as it heard an answer
+abbrev StaysAt : Scope → Scope → Type 0
+StaysAt s u = (u.frame.body ≡ s.frame.body) × (u.frame.line ≡ s.frame.line)
+
+held_stays : (a : Answer) (f : Frame) → ((held a f).body ≡ f.body) × ((held a f).line ≡ f.line)
+held_stays (answer.Bytes b) f = (refl, refl)
+held_stays (answer.Msg m v) f = (refl, refl)
+held_stays a f = (refl, refl)
+
+put_stays : (s : Scope) (r : Register) (n : ℤ) → StaysAt s (put_register s r n)
+put_stays s (reg.Own k) n = (refl, refl)
+put_stays s (reg.Shared k) n = (refl, refl)
+
+into_stays : (r : Option Register) (a : Answer) (s : Scope) → StaysAt s (heard_into r a s)
+into_stays None a s = held_stays a s.frame
+into_stays (Some r) a s = let put = put_stays (kept a s) r (number_of_answer a) in let h = held_stays a s.frame in (put.0 ∙ h.0, put.1 ∙ h.1)
+
+for_stays : (o : Owed) (a : Answer) (s : Scope) → StaysAt s (heard_for o a s)
+for_stays owed.Nothing a s = (refl, refl)
+for_stays (owed.Answer r) a s = into_stays r a s
+
+heard_stays : (a : Answer) (s : Scope) → StaysAt s (heard a s)
+unfolding heard
+heard_stays a s = for_stays s.frame.owed a s
+
+-- the step of a thread that does not stand at the end of body b
+same_step : (b : ℕ) (lines : List Line) (bodies : List (List Line)) (f : Frame) (c : Cells) (a : Answer) → (f.body ≡ b → f.line < length (slice_index_or bodies b [])) → stepped (lines_added b lines bodies) f c a ≡ stepped bodies f c a
+unfolding stepped
+same_step b lines bodies f c a before =
+    let s = heard a (scope f c) in
+    let at = heard_stays a (scope f c) in
+    ap (λ o. does_next o s) (same_line b lines bodies s.frame.body s.frame.line (λ same. subst (λ n. n < length (slice_index_or bodies b [])) (sym at.1) (before (sym at.0 ∙ same))))
+
+differs : (b : ℕ) (lines : List Line) (s : Sections) → DifferInSteps (functions_of s) (functions_of (longer b lines s))
+unfolding functions_of
+differs b lines s = ap (λ n. record (functions_of s) { bodies = n; step = (functions_of (longer b lines s)).step }) (as_many b lines s.bodies)
+
+pub scripts_agree : (g : Given Sections) (b : ℕ) (lines : List Line) (i : ℕ) → NeverAtEndUpTo b g i → run functions_of (record g { program = longer b lines g.program }) i ≡ with_program (longer b lines g.program) (run functions_of g i)
+unfolding functions_of
+scripts_agree g b lines i never = programs_agree functions_of g (longer b lines g.program) i (differs b lines g.program) (λ j t p before asks. same_step b lines g.program.bodies p.state (run functions_of g j).state.control.shared p.owed (never j t p before asks))
