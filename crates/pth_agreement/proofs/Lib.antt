@@ -7,3 +7,4 @@ pub mod Passes
 pub mod Parts
 pub mod WholeRuns
 pub mod LongerScripts
+pub mod OtherTraces

@@ -73,7 +73,7 @@ module _ {P S H : Type 0} (p : P) (trace : List Stamp) (f : P → Functions S H)
   own_part s Halt own same = tt
 
 -- a program gives what it gives
-gives_own : {S H : Type 0} (a : Functions S H) (b : Option Blocked) (o : Option (Progress S)) (shared : H) → StepAlikeBy a a b o shared
+pub gives_own : {S H : Type 0} (a : Functions S H) (b : Option Blocked) (o : Option (Progress S)) (shared : H) → StepAlikeBy a a b o shared
 gives_own a None (Some p) shared = refl
 gives_own a None None shared = tt
 gives_own a (Some c) o shared = tt

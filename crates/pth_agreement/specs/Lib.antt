@@ -1,2 +1,4 @@
 pub mod Agreement
 pub mod Scripts
+pub mod Traces
+pub mod Example

@@ -1,5 +1,7 @@
 //! When the runs of two programs agree.
 #![tactic(auto)]
 
+pub mod example;
 pub mod runs;
 pub mod scripts;
+pub mod traces;
