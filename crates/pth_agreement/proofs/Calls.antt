@@ -5,7 +5,6 @@ use Rattle.pth_base.specs.declared.answer.Answer.{Answer}
 use Rattle.pth_base.specs.declared.answer.Answer.TheVariants as answer
 use Rattle.pth_base.specs.declared.call.Call.{Call}
 use Rattle.pth_base.specs.declared.call.Call.TheVariants as call
-use Rattle.pth_base.specs.declared.errno.Errno.TheVariants.{EINTR}
 use Rattle.pth_base.specs.declared.mark.Mark.TheVariants as mark
 use Rattle.pth_kernel.specs.declared.trace.Stamp.{Stamp}
 use Rattle.pth_lock.specs.Objects.{object_named}
@@ -20,14 +19,14 @@ use Rattle.pth_model.specs.declared.verdict.Verdict.{Verdict}
 use Rattle.pth_model.specs.declared.verdict.Verdict.TheVariants.{Says, Yields, Blocks, Ends, Kills}
 use Rattle.pth_model.specs.Calls.{begun, begun_by, begun_as, blocks, waits_by, canceled_by, interrupted, unless_settled, answers, tried_by, tried, tried_again, tried_again_by, gone_on, gone_on_where, gone_on_in, gone_on_by, retaken_as, retakes, retakes_where, ends_await, awaits_on, awaits_on_where}
 use Rattle.pth_model.specs.Cancellation.{canceled_in, canceled_value, may_be_canceled, takes_request}
-use Rattle.pth_model.specs.Changes.{goes_on, blocked_of, is_blocked_by}
+use Rattle.pth_model.specs.Changes.{blocked_of, is_blocked_by}
 use Rattle.pth_model.specs.Conditions.{can_take, is_noticed, leaves_seat, hands_on_seats}
 use Rattle.pth_model.specs.Ending.{ending}
 use Rattle.pth_model.specs.RingWaits.{claims, extra_ring, has_settled, ring_given, stops_waiting}
 use Rattle.pth_model.specs.Row.{Attempt, effect_of}
 use Rattle.pth_model.specs.Rows.{row_of}
-use Rattle.pth_model.specs.Transition.{Last, Piece, Change, silent, nothing, changes, tells, tid, ◌and◌, ◌and_then◌, ◌and_next◌, ◌and_finally◌}
-use Rattle.pth_agreement.proofs.Placed.{Bare, placed, placed_control, gone, AreSame, DoSame, GoSame, AttemptSame, and_same, changes_same, then_same, next_same, finally_at, effect_same}
+use Rattle.pth_model.specs.Transition.{Change, nothing, changes, tells, tid, ◌and◌, ◌and_then◌, ◌and_next◌}
+use Rattle.pth_agreement.proofs.Placed.{Bare, placed, gone, AreSame, DoSame, GoSame, AttemptSame, and_same, changes_same, then_same, next_same, finally_at, effect_same}
 use Rattle.pth_agreement.proofs.Kernels.{ShowsSame}
 use Rattle.pth_agreement.proofs.Endings.{stepping_so, claims_same, blocked_same, stops_same, seats_same, ending_same}
 use Rattle.pth_agreement.proofs.Rows.{begins_same, tried_same, request_same}

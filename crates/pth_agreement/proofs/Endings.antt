@@ -1,6 +1,6 @@
 -- Handlers, and the end of a thread, with another program that has the same handlers.
 use Rattle.std.proofs.Common.{◌≡◌, ℕ, zero, suc, ◌+◌, ◌*◌, Bool, true, false, if◌then◌else◌, ℤ, List, [], ◌∷◌, map, Option, Some, None, refl, ap}
-use Rattle.pth_base.specs.Program.{Functions, Stepped, Acted}
+use Rattle.pth_base.specs.Program.{Functions, Stepped}
 use Rattle.pth_base.specs.declared.act.Act.{Act}
 use Rattle.pth_base.specs.declared.act.Act.TheVariants as act
 use Rattle.pth_base.specs.declared.answer.Answer.{Answer}
@@ -25,8 +25,8 @@ use Rattle.pth_model.specs.Conditions.{hands_on_seat, hands_on_seats}
 use Rattle.pth_model.specs.Ending.{ending, undoes_wait, runs_each, runs_cleanups, destructs, destructs_by, runs_destructor, runs_destructors, mutexes_had, locks_held, gives_mutexes, gives_locks, gives_all, dies, leaves, is_dead_with, stops_running, next_destructor, round_limit, first_round}
 use Rattle.pth_model.specs.RingWaits.{awaited_in, claims, gives_back, ring_held, ring_seats, stops_waiting}
 use Rattle.pth_model.specs.Row.{Attempt, effect_of}
-use Rattle.pth_model.specs.State.{State, Control}
-use Rattle.pth_model.specs.Transition.{Piece, Change, silent, changes, tells, tells_each, tid, ◌and◌, ◌and_then◌}
+use Rattle.pth_model.specs.State.{Control}
+use Rattle.pth_model.specs.Transition.{Piece, changes, tells, tid, ◌and◌, ◌and_then◌}
 use Rattle.pth_agreement.proofs.Placed.{Bare, placed, placed_control, moved, AreSame, DoSame, AttemptSame, and_same, changes_same, then_at, then_same, where_same, each_same, effect_same}
 
 -- the functions of a program, but for what its steps give

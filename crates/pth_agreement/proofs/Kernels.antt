@@ -4,7 +4,6 @@ use Rattle.std.specs.List.{list_any}
 use Rattle.pth_base.specs.declared.answer.Answer.{Answer}
 use Rattle.pth_base.specs.declared.answer.Answer.TheVariants as answer
 use Rattle.pth_kernel.specs.Entries.{bytes_brought, room_brought, connection_brought, settling_brought, is_eof, is_exception, is_failure}
-use Rattle.pth_kernel.specs.declared.trace.Entry.{Entry}
 use Rattle.pth_kernel.specs.declared.trace.Stamp.{Stamp}
 use Rattle.pth_kernel.specs.Kernel.{Kernel, came_to, unread, room, connections, connected, is_fd_live, is_readable, is_writeable, is_exceptional, earliest, room_used, connection_accepted, with_mode, fd_named}
 use Rattle.pth_kernel.specs.Modes.{sets_mode}

@@ -1,5 +1,5 @@
 -- A script with further lines at the end of a body: which steps give the same.
-use Rattle.std.proofs.Common.{◌≡◌, ◌≢◌, ◌<◌, ℕ, zero, suc, List, [], ◌∷◌, ◌++◌, length, slice_get, slice_index_or, option_and_then, Option, Some, None, ℤ, refl, ap, sym, ◌∙◌, subst, not-suc-le-zero, le_of_suc-le-suc}
+use Rattle.std.proofs.Common.{◌≡◌, ◌<◌, ℕ, zero, suc, List, [], ◌∷◌, ◌++◌, length, slice_get, slice_index_or, option_and_then, Option, Some, None, ℤ, refl, ap, sym, ◌∙◌, subst, not-suc-le-zero, le_of_suc-le-suc}
 use Rattle.pth_base.specs.declared.answer.Answer.{Answer}
 use Rattle.pth_base.specs.declared.answer.Answer.TheVariants as answer
 use Rattle.pth_line.specs.LineSteps.{stepped, does_next}

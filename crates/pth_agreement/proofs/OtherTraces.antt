@@ -1,9 +1,9 @@
 -- Runs with a trace that differs only in what is later.
-use Rattle.std.proofs.Common.{◌≡◌, ◌≢◌, ◌<◌, ◌≤◌, ℕ, zero, suc, ◌+◌, ◌==◌, ◌&&◌, min, nat_le, nat_lt, Bool, true, false, true≢false, if◌then◌else◌, List, [], ◌∷◌, ◌++◌, map, filter, Option, Some, None, refl, ap, sym, ◌∙◌, subst, le_of_lt, le_trans, arith}
+use Rattle.std.proofs.Common.{◌≡◌, ◌≢◌, ◌<◌, ◌≤◌, ℕ, suc, ◌==◌, ◌&&◌, min, nat_le, nat_lt, Bool, true, false, true≢false, if◌then◌else◌, List, [], ◌∷◌, ◌++◌, map, filter, Option, Some, None, refl, ap, sym, ◌∙◌, subst, le_of_lt, le_trans, arith}
 use Rattle.std.proofs.lemmas.Bool.{leb-true, le-leb}
 use Rattle.std.proofs.lemmas.Bool.Decides.{nat_tests}
 use Rattle.pth_base.specs.Limits.{last_moment}
-use Rattle.pth_base.specs.Program.{Functions, Stepped}
+use Rattle.pth_base.specs.Program.{Functions}
 use Rattle.pth_base.specs.declared.outcome.Outcome.TheVariants.{Stalled}
 use Rattle.pth_kernel.specs.Kernel.{Kernel, advanced, came_to}
 use Rattle.pth_kernel.specs.Moments.{least_by, least_after}
@@ -17,7 +17,7 @@ use Rattle.pth_model.specs.Pass.{pass, looks, to_wake, woken, all_woken, is_read
 use Rattle.pth_model.specs.Run.{parts, run}
 use Rattle.pth_model.specs.State.{State, Given, Turn, now_of}
 use Rattle.pth_model.specs.Transition.{controlled, tells}
-use Rattle.pth_agreement.specs.Traces.{up_to, AreSameUpTo, IsNotPast, NeverPastUpTo, given_trace, with_trace}
+use Rattle.pth_agreement.specs.Traces.{up_to, AreSameUpTo, NeverPastUpTo, given_trace, with_trace}
 use Rattle.pth_agreement.proofs.Placed.{Bare}
 use Rattle.pth_agreement.proofs.Parts.{PartSame}
 use Rattle.pth_agreement.proofs.WholeRuns.{bare_given, ends_kernel, gives_own, own, own_trace, run_same, run_bare}
@@ -154,9 +154,10 @@ module _ {P S H : Type 0} (p : P) (m : ℕ) (trace other : List Stamp) (same : A
   unfolding waits_until
   move_same x s None next kept within goes_on = absurd (goes_on refl)
   move_same x s (Some n) next kept within goes_on =
-      let at : n ≤ m = subst (λ (k : Kernel). k.now ≤ m) (pass_kernel bare (tells (mark.Moved n) (controlled (moves_to n) s)).state) within in
-      (next_same (now_of s.control) m n (moments bare s) trace other same at (ap (λ (l : List Stamp). least_after (now_of s.control) (map (λ (s : Stamp). s.at) l ++ moments bare s)) (sym kept) ∙ next) ∙ sym next,
-      λ to leads. shows_up_to m trace other (advanced to s.control.kernel) same kept (subst (λ n. n ≤ m) (some_same n to (sym next ∙ leads)) at))
+      let at : n ≤ m = subst (λ (k : Kernel). k.now ≤ m) (pass_kernel bare (tells (mark.Moved n) (controlled (moves_to n) s)).state) within in (
+        next_same (now_of s.control) m n (moments bare s) trace other same at (ap (λ (l : List Stamp). least_after (now_of s.control) (map (λ (s : Stamp). s.at) l ++ moments bare s)) (sym kept) ∙ next) ∙ sym next,
+        λ to leads. shows_up_to m trace other (advanced to s.control.kernel) same kept (subst (λ n. n ≤ m) (some_same n to (sym next ∙ leads)) at),
+      )
 
   asked_same : (x : Turn) (s : Bare S H) (a : Part) → s.control.kernel.trace ≡ trace → now_of s.control ≤ m → now_of (part_by bare x s a).state.control ≤ m → (part_by bare x s a).turn.outcome ≢ Stalled → IsAsked s a
   unfolding moves closes

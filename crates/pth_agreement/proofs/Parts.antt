@@ -1,25 +1,23 @@
 -- One part of a run, with another program and another trace.
-use Rattle.std.proofs.Common.{◌≡◌, ℕ, ◌+◌, min, Bool, true, false, List, [], ◌∷◌, reverse, Option, Some, None, refl, ap, ◌∙◌, subst}
-use Rattle.pth_base.specs.Limits.{last_moment}
+use Rattle.std.proofs.Common.{◌≡◌, ℕ, ◌+◌, List, [], ◌∷◌, reverse, Option, Some, None, refl, ap, ◌∙◌}
 use Rattle.pth_base.specs.Program.{Functions, Stepped}
 use Rattle.pth_base.specs.declared.answer.Answer.{Answer}
 use Rattle.pth_base.specs.declared.mark.Mark.TheVariants as mark
-use Rattle.pth_base.specs.declared.outcome.Outcome.TheVariants as outcome
-use Rattle.pth_kernel.specs.Kernel.{Kernel, advanced}
+use Rattle.pth_kernel.specs.Kernel.{advanced}
 use Rattle.pth_kernel.specs.declared.trace.Stamp.{Stamp}
 use Rattle.pth_queue.specs.declared.queue.Queue.TheVariants.{New, Ready}
 use Rattle.pth_model.specs.declared.blocked.Blocked.{Blocked}
 use Rattle.pth_model.specs.declared.next.Next.{Next}
 use Rattle.pth_model.specs.declared.next.Next.TheVariants as next
 use Rattle.pth_model.specs.declared.progress.Progress.{Progress}
-use Rattle.pth_model.specs.Calls.{begun, gone_on}
-use Rattle.pth_model.specs.Changes.{sets, goes_on, owes, enters, leaves_queue, raises_ready, trails, runs_now, moves_to, blocked_of, holders}
+use Rattle.pth_model.specs.Calls.{begun}
+use Rattle.pth_model.specs.Changes.{sets, goes_on, enters, leaves_queue, raises_ready, trails, runs_now, moves_to, blocked_of, holders}
 use Rattle.pth_model.specs.Course.{Course, within}
-use Rattle.pth_model.specs.Part.{Part, Move, Take, Step, Close, Halt, next_part, part, part_by, chosen, readies, readies_all, readies_new, runs, dispatches, takes, takes_by, takes_next, owes_after, turn_after, settled, stepping, steps, steps_by, steps_from, steps_on, step_of, is_put_back, is_put_waiting, placed_by, is_placed, time_passes, turn_ends, closes, moves, moves_by}
+use Rattle.pth_model.specs.Part.{Part, Move, Take, Step, Close, Halt, next_part, part, part_by, chosen, readies, readies_all, readies_new, runs, dispatches, takes, takes_by, takes_next, owes_after, turn_after, settled, stepping, steps, steps_by, steps_on, is_put_back, is_put_waiting, placed_by, is_placed, time_passes, turn_ends, closes, moves, moves_by}
 use Rattle.pth_model.specs.Pass.{pass, is_ready_at, moment}
-use Rattle.pth_model.specs.State.{State, Control, Turn, queue, now_of, clock_of}
-use Rattle.pth_model.specs.Transition.{Transition, Went, Last, Change, silent, nothing, changes, controlled, tells, ◌and◌, ◌and_then◌, ◌and_finally◌}
-use Rattle.pth_agreement.proofs.Placed.{Bare, placed, placed_control, moved, gone, AreSame, DoSame, and_same, changes_same, then_at, then_same, finally_at}
+use Rattle.pth_model.specs.State.{Turn, queue}
+use Rattle.pth_model.specs.Transition.{Went, changes, controlled, tells, ◌and◌, ◌and_then◌, ◌and_finally◌}
+use Rattle.pth_agreement.proofs.Placed.{Bare, placed, gone, AreSame, and_same, changes_same, then_at, finally_at}
 use Rattle.pth_agreement.proofs.Kernels.{ShowsSame}
 use Rattle.pth_agreement.proofs.Endings.{stepping_so}
 use Rattle.pth_agreement.proofs.Calls.{begun_same, gone_on_same}

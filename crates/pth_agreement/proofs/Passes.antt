@@ -1,5 +1,5 @@
 -- A pass, and the moments that are waited for, with another program and another trace.
-use Rattle.std.proofs.Common.{◌≡◌, ℕ, ◌&&◌, ◌||◌, Bool, true, false, not, List, [], ◌∷◌, filter, flat_map, Option, Some, None, option_map, refl, ap, ◌∙◌}
+use Rattle.std.proofs.Common.{◌≡◌, ℕ, ◌&&◌, ◌||◌, not, List, [], ◌∷◌, filter, flat_map, option_map, refl, ap, ◌∙◌}
 use Rattle.std.specs.List.{list_any}
 use Rattle.pth_base.specs.Descriptors.{contains}
 use Rattle.pth_base.specs.Program.{Functions, Stepped}
@@ -25,7 +25,7 @@ use Rattle.pth_model.specs.RingWaits.{awaited_events}
 use Rattle.pth_model.specs.ThreadControl.{joinable_dead}
 use Rattle.pth_model.specs.ThreadEnds.{is_alone}
 use Rattle.pth_model.specs.Transition.{changes}
-use Rattle.pth_agreement.proofs.Placed.{Bare, placed, placed_control, moved, DoSame, then_at, then_same}
+use Rattle.pth_agreement.proofs.Placed.{Bare, placed, moved, DoSame, then_at, then_same}
 use Rattle.pth_agreement.proofs.Kernels.{ShowsSame, readable_same, writeable_same, exceptional_same, any_same, brings_same}
 use Rattle.pth_agreement.proofs.Endings.{stepping_so}
 

@@ -1,11 +1,11 @@
 -- A state without its program and its trace, and the same state with both: pieces of the machine that do the same to the two.
-use Rattle.std.proofs.Common.{◌≡◌, ℕ, Bool, true, false, List, [], ◌∷◌, ◌++◌, refl, sym, ◌∙◌, ap}
+use Rattle.std.proofs.Common.{◌≡◌, Bool, true, false, List, [], ◌∷◌, ◌++◌, refl, ◌∙◌, ap}
 use Rattle.pth_base.specs.declared.mark.Mark.{Mark}
 use Rattle.pth_kernel.specs.declared.trace.Stamp.{Stamp}
 use Rattle.pth_model.specs.declared.next.Next.{Next}
 use Rattle.pth_model.specs.State.{State, Control}
-use Rattle.pth_model.specs.Transition.{Transition, Piece, Change, Went, Last, silent, changes, controlled, tells, tells_each, where_so, ◌and◌, ◌and_then◌, ◌and_next◌, ◌and_finally◌}
-use Rattle.pth_model.specs.Row.{Attempt, Row, refuses, effect_of, unless_refused}
+use Rattle.pth_model.specs.Transition.{Transition, Piece, Change, Went, Last, changes, tells, tells_each, where_so, ◌and◌, ◌and_then◌, ◌and_next◌, ◌and_finally◌}
+use Rattle.pth_model.specs.Row.{Attempt, refuses, effect_of, unless_refused}
 
 -- a state whose program is nothing of note
 abbrev pub Bare : Type 0 → Type 0 → Type 0

@@ -1,5 +1,5 @@
 -- The row of each call, with another program and another trace: its verdict, and its effect.
-use Rattle.std.proofs.Common.{◌≡◌, ℕ, length, [], ◌&&◌, ◌||◌, not, Bool, true, false, if◌then◌else◌, ℤ, List, Option, Some, None, refl, ap, ◌∙◌}
+use Rattle.std.proofs.Common.{◌≡◌, ℕ, length, [], not, Bool, true, false, if◌then◌else◌, ℤ, List, Option, Some, None, refl, ap}
 use Rattle.pth_base.specs.Program.{Functions, Stepped}
 use Rattle.pth_base.specs.declared.answer.Answer.{Answer}
 use Rattle.pth_base.specs.declared.answer.Answer.TheVariants.{Int}
@@ -15,7 +15,7 @@ use Rattle.pth_base.specs.declared.mark.Mark.TheVariants as mark
 use Rattle.pth_base.specs.declared.query.Query.{Query}
 use Rattle.pth_base.specs.declared.query.Query.TheVariants as query
 use Rattle.pth_kernel.specs.declared.trace.Stamp.{Stamp}
-use Rattle.pth_kernel.specs.Kernel.{Kernel, fd_named}
+use Rattle.pth_kernel.specs.Kernel.{fd_named}
 use Rattle.pth_kernel.specs.Modes.{sets_mode}
 use Rattle.pth_numbered.specs.Operands.{number, is_zero}
 use Rattle.pth_queue.specs.declared.queue.Queue.{Queue}
@@ -35,22 +35,21 @@ use Rattle.pth_model.specs.Acts.{runs_handler}
 use Rattle.pth_model.specs.Ending.{ending}
 use Rattle.pth_model.specs.AttributeHandling.{object, sets_field, sets_value}
 use Rattle.pth_model.specs.Awaits.{round_in}
-use Rattle.pth_model.specs.Barriers.{tries_round}
-use Rattle.pth_model.specs.Cancellation.{canceled_by_other, ends_or_asks, aborts, aborted, takes_request, is_asynchronous, is_to_cancel, canceled_value}
-use Rattle.pth_model.specs.Changes.{sets, goes_on, enters, leaves_queue, makes, forgets, removes, prefers, uses, with_events, with_barriers, with_kernel, or_nobody, entry_of, queue_for}
+use Rattle.pth_model.specs.Cancellation.{canceled_by_other, aborts, takes_request, is_asynchronous, is_to_cancel, canceled_value}
+use Rattle.pth_model.specs.Changes.{sets, enters, leaves_queue, makes, forgets, removes, prefers, uses, with_events, with_barriers, with_kernel, or_nobody, entry_of, queue_for}
 use Rattle.pth_model.specs.Cleanups.{runs_pushed, last_pushed}
 use Rattle.pth_model.specs.EventHandling.{spec_of, made_as, make_event, chain}
-use Rattle.pth_model.specs.Io.{tries, trial_for, at_once, is_refused_length, select_deadline, begins_waiting}
+use Rattle.pth_model.specs.Io.{tries, at_once, is_refused_length, select_deadline, begins_waiting}
 use Rattle.pth_model.specs.LibraryControl.{ctrl, vanish_all_but}
 use Rattle.pth_model.specs.Living.{is_dead}
 use Rattle.pth_model.specs.Resources.{handler}
 use Rattle.pth_model.specs.RingWaits.{extra_ring, is_no_ring}
-use Rattle.pth_model.specs.Row.{Attempt, Row, ◌trying◌}
+use Rattle.pth_model.specs.Row.{Attempt, ◌trying◌}
 use Rattle.pth_model.specs.Rows.{row_of}
-use Rattle.pth_model.specs.State.{State, Control}
+use Rattle.pth_model.specs.State.{State}
 use Rattle.pth_model.specs.ThreadControl.{thread, joinable_dead, to_join, takes_joined, suspends, resumes, returns_to}
 use Rattle.pth_model.specs.ThreadEnds.{is_alone}
-use Rattle.pth_model.specs.Transition.{Piece, Change, silent, nothing, changes, tells, tid, where_so, ◌and◌, ◌and_then◌}
+use Rattle.pth_model.specs.Transition.{Change, silent, nothing, changes, tells, tid, ◌and◌, ◌and_then◌}
 use Rattle.pth_model.specs.Verdict.{refused, says, by_result, ◌when◌otherwise◌}
 use Rattle.pth_agreement.proofs.Placed.{Bare, placed, placed_control, moved, AreSame, DoSame, AttemptSame, changes_same, then_same, where_same}
 use Rattle.pth_agreement.proofs.Kernels.{ShowsSame, trial_same, after_same, mode_sets}

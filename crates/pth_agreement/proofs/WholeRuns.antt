@@ -1,5 +1,5 @@
 -- Runs, with another program and another trace.
-use Rattle.std.proofs.Common.{◌≡◌, ◌<◌, ◌≤◌, ℕ, zero, suc, ◌+◌, min, Bool, true, false, List, Option, Some, None, refl, ap, ap₂, map, ◌++◌, sym, ◌∙◌, subst, le_of_lt, lt-suc_self, lt_trans}
+use Rattle.std.proofs.Common.{◌≡◌, ◌<◌, ℕ, zero, suc, ◌+◌, min, List, Option, Some, None, refl, ap, ap₂, map, ◌++◌, sym, ◌∙◌, subst, lt-suc_self, lt_trans}
 use Rattle.pth_base.specs.Limits.{last_moment}
 use Rattle.pth_base.specs.Program.{Functions, Stepped}
 use Rattle.pth_base.specs.declared.answer.Answer.{Answer}
@@ -11,12 +11,11 @@ use Rattle.pth_model.specs.declared.progress.Progress.{Progress}
 use Rattle.pth_model.specs.Changes.{raises_ready, moves_to, blocked_in, blocked_of}
 use Rattle.pth_model.specs.Course.{Course, followed}
 use Rattle.pth_model.specs.Part.{Part, Move, Take, Step, Close, Halt, next_part, part, is_put_back, is_put_waiting, placed_by, is_placed, turn_ends}
-use Rattle.pth_model.specs.Pass.{moment, moments}
 use Rattle.pth_model.specs.Run.{parts, run}
-use Rattle.pth_model.specs.State.{State, Control, Given, Turn, start, now_of, clock_of}
+use Rattle.pth_model.specs.State.{State, Control, Given, start, now_of, clock_of}
 use Rattle.pth_model.specs.Transition.{controlled}
-use Rattle.pth_agreement.specs.Agreement.{DifferInSteps, AsksForCall, StepsAlikeUpTo, with_program}
-use Rattle.pth_agreement.proofs.Placed.{Bare, placed, placed_control}
+use Rattle.pth_agreement.specs.Agreement.{DifferInSteps, StepsAlikeUpTo, with_program}
+use Rattle.pth_agreement.proofs.Placed.{Bare}
 use Rattle.pth_agreement.proofs.Kernels.{ShowsSame}
 use Rattle.pth_agreement.proofs.Endings.{stepping_so}
 use Rattle.pth_agreement.proofs.Passes.{moments_same}
@@ -64,8 +63,8 @@ shows_own trace k own = ap (λ (l : List Stamp). came_to (record k { trace = l }
 module _ {P S H : Type 0} (p : P) (trace : List Stamp) (f : P → Functions S H) (step : S → H → Answer → Stepped S H) where
   own_part : (s : Bare S H) (a : Part) → s.control.kernel.trace ≡ trace → ((t : ℕ) → a ≡ Step t → StepSame p trace f step t s) → PartSame p trace f step s a
   own_part s Move own same = (
-      ap₂ (λ (l : List Stamp) ms. least_after (now_of s.control) (map (λ (x : Stamp). x.at) l ++ ms)) (sym own) (moments_same p trace f step s),
-      λ m next. shows_own trace (advanced m s.control.kernel) own,
+    ap₂ (λ (l : List Stamp) ms. least_after (now_of s.control) (map (λ (x : Stamp). x.at) l ++ ms)) (sym own) (moments_same p trace f step s),
+    λ m next. shows_own trace (advanced m s.control.kernel) own,
   )
   own_part s Take own same = tt
   own_part s (Step t) own same = (shows_own trace s.control.kernel own, same t refl)
@@ -126,15 +125,15 @@ module _ {P S H : Type 0} (f : P → Functions S H) where
       let step = (f g.program).step in
       let same : stepping_so f q step ≡ own g.program = λ j u. record (differ j) { step = step } in
       let asked : (j : ℕ) → j < i → let c = run (own g.program) (bare_given g) j in PartSame q trace f step c.state (next_part c.state c.turn) = λ j before.
-          let c = run (own g.program) (bare_given g) j in
-          own_part q trace f step c.state (next_part c.state c.turn) (own_trace (own g.program) (bare_given g) j) (λ t next.
-          let same_run = run_bare g j in
-          gives_asked (f g.program) (f q) (c.state.control.threads.progress t) c.state.control.shared (λ o at free.
-          subst (λ (d : Course P S H). (f q).step o.state d.state.control.shared o.owed ≡ (f g.program).step o.state d.state.control.shared o.owed) same_run (alike j t o before (record {
-            steps = ap (λ (d : Course P S H). next_part d.state d.turn) same_run ∙ next_part_same g.program trace c.state c.turn ∙ next;
-            is_so_far = ap (λ (d : Course P S H). d.state.control.threads.progress t) same_run ∙ at;
-            unblocked = free;
-          })))) in
+      let c = run (own g.program) (bare_given g) j in
+      own_part q trace f step c.state (next_part c.state c.turn) (own_trace (own g.program) (bare_given g) j) (λ t next.
+      let same_run = run_bare g j in
+      gives_asked (f g.program) (f q) (c.state.control.threads.progress t) c.state.control.shared (λ o at free.
+      subst (λ (d : Course P S H). (f q).step o.state d.state.control.shared o.owed ≡ (f g.program).step o.state d.state.control.shared o.owed) same_run (alike j t o before (record {
+        steps = ap (λ (d : Course P S H). next_part d.state d.turn) same_run ∙ next_part_same g.program trace c.state c.turn ∙ next;
+        is_so_far = ap (λ (d : Course P S H). d.state.control.threads.progress t) same_run ∙ at;
+        unblocked = free;
+      })))) in
       run_same q trace f step (bare_given g) i (subst (λ (h : Unit {0} → Functions S H). (j : ℕ) → j < i → let c = run h (bare_given g) j in PartSame q trace f step c.state (next_part c.state c.turn)) (sym same) asked)
       ∙ ap (λ (h : Unit {0} → Functions S H). placed_course q trace (run h (bare_given g) i)) same
       ∙ sym (ap (with_program q) (run_bare g i))

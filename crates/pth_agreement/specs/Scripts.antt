@@ -2,7 +2,6 @@
 use Rattle.std.specs.Prelude.{◌≡◌, ◌<◌, ℕ, zero, suc, List, [], ◌∷◌, ◌++◌, length, slice_index_or}
 use Rattle.pth_line.specs.Script.{Sections, functions_of}
 use Rattle.pth_line.specs.declared.line.Line.{Line}
-use Rattle.pth_operand.specs.declared.cells.Cells.{Cells}
 use Rattle.pth_operand.specs.declared.frame.Frame.{Frame}
 use Rattle.pth_model.specs.declared.progress.Progress.{Progress}
 use Rattle.pth_model.specs.Run.{run}

@@ -11,9 +11,7 @@ ghost use Rattle.pth_agreement.specs.Scripts.{longer, NeverAtEndUpTo};
 /// If no thread came to the end of a body before part i, then the run of the script with further lines at the end of that body agrees
 /// with the run up to there, in all but the script: in the state, in the turn and in the marks.
 pub fn longer_scripts_agree()
-    ensures {
-        (g : Given Sections) (b : ℕ) (lines : List Line) (i : ℕ) → NeverAtEndUpTo b g i
+    ensures { (g : Given Sections) (b : ℕ) (lines : List Line) (i : ℕ) → NeverAtEndUpTo b g i
         → let script = longer b lines g.program in
-        run functions_of (record g { program = script }) i ≡ with_program script (run functions_of g i)
-    }
+        run functions_of (record g { program = script }) i ≡ with_program script (run functions_of g i) }
 {}

@@ -16,8 +16,6 @@ pub fn every_run_keeps_its_trace<P: Program>()
 /// If two traces are the same up to a moment, and a run with the first is neither past that moment nor stalled at any part up to part i,
 /// then the runs with these traces agree up to there, in all but the trace: in the state, in the turn and in the marks.
 pub fn later_stamps_agree<P: Program>()
-    ensures {
-        (g : Given P) (trace : List Stamp) (m i : ℕ) → AreSameUpTo m g.kernel.trace trace → NeverPastUpTo m P.functions g i
-        → run P.functions (given_trace trace g) i ≡ with_trace trace (run P.functions g i)
-    }
+    ensures { (g : Given P) (trace : List Stamp) (m i : ℕ) → AreSameUpTo m g.kernel.trace trace → NeverPastUpTo m P.functions g i
+        → run P.functions (given_trace trace g) i ≡ with_trace trace (run P.functions g i) }
 {}

@@ -1,4 +1,4 @@
-use Rattle.std.proofs.Common.{◌≡◌, ◌<◌, ℕ, zero, suc, refl, ap, sym, subst, Some, None, Option, pos, arith, lt-suc_self, lt_irrefl}
+use Rattle.std.proofs.Common.{◌≡◌, ◌<◌, ℕ, zero, suc, refl, sym, subst, Some, None, Option, pos, arith, lt-suc_self, lt_irrefl}
 use Rattle.pth_base.specs.declared.answer.Answer.TheVariants as answer
 use Rattle.pth_base.specs.Table.{put}
 use Rattle.pth_numbered.specs.Numbered.{number_known}
