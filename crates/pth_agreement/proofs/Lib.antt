@@ -1,3 +1,4 @@
+pub mod Others
 pub mod Placed
 pub mod Kernels
 pub mod Endings
@@ -8,3 +9,4 @@ pub mod Parts
 pub mod WholeRuns
 pub mod LongerScripts
 pub mod OtherTraces
+pub mod Opened

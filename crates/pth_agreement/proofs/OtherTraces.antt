@@ -20,7 +20,7 @@ use Rattle.pth_model.specs.Transition.{controlled, tells}
 use Rattle.pth_agreement.specs.Traces.{up_to, AreSameUpTo, NeverPastUpTo, given_trace, with_trace}
 use Rattle.pth_agreement.proofs.Placed.{Bare}
 use Rattle.pth_agreement.proofs.Parts.{PartSame}
-use Rattle.pth_agreement.proofs.WholeRuns.{bare_given, ends_kernel, gives_own, own, own_trace, run_same, run_bare}
+use Rattle.pth_agreement.proofs.WholeRuns.{only_trace, asks_left, call_is_left, bare_given, ends_kernel, gives_own, own, own_trace, run_same, run_bare}
 use Rattle.pth_agreement.proofs.Kernels.{ShowsSame}
 
 -- what passes one test, of what passes a wider one
@@ -39,7 +39,7 @@ both_hold true b h = h
 both_hold false b h = absurd (true≢false (sym h))
 
 -- a kernel that is not past the moment shows the same
-pub shows_up_to : (m : ℕ) (a b : List Stamp) (k : Kernel) → AreSameUpTo m a b → k.trace ≡ a → k.now ≤ m → ShowsSame b k
+pub shows_up_to : (m : ℕ) (a b : List Stamp) (k : Kernel) → AreSameUpTo m a b → k.trace ≡ a → k.now ≤ m → ShowsSame (only_trace b) k
 unfolding came_to
 shows_up_to m a b k same at now = λ i f. map (λ (s : Stamp). s.what) (shown f i)
   where
@@ -147,7 +147,7 @@ module _ {P S H : Type 0} (p : P) (m : ℕ) (trace other : List Stamp) (same : A
   bare u = f p
 
   abbrev IsAsked : Bare S H → Part → Type 0
-  IsAsked = PartSame p other f (f p).step
+  IsAsked = PartSame p (only_trace other) f (f p).step
 
   -- where time moves to m at most
   move_same : (x : Turn) (s : Bare S H) (o : Option ℕ) → moment bare s ≡ o → s.control.kernel.trace ≡ trace → now_of (moves_by bare x o s).state.control ≤ m → (moves_by bare x o s).turn.outcome ≢ Stalled → IsAsked s Move
@@ -156,23 +156,27 @@ module _ {P S H : Type 0} (p : P) (m : ℕ) (trace other : List Stamp) (same : A
   move_same x s (Some n) next kept within goes_on =
       let at : n ≤ m = subst (λ (k : Kernel). k.now ≤ m) (pass_kernel bare (tells (mark.Moved n) (controlled (moves_to n) s)).state) within in (
         next_same (now_of s.control) m n (moments bare s) trace other same at (ap (λ (l : List Stamp). least_after (now_of s.control) (map (λ (s : Stamp). s.at) l ++ moments bare s)) (sym kept) ∙ next) ∙ sym next,
-        λ to leads. shows_up_to m trace other (advanced to s.control.kernel) same kept (subst (λ n. n ≤ m) (some_same n to (sym next ∙ leads)) at),
+        λ to leads. asks_left other (moves_to to s.control) (shows_up_to m trace other (advanced to s.control.kernel) same kept (subst (λ n. n ≤ m) (some_same n to (sym next ∙ leads)) at)),
       )
 
   asked_same : (x : Turn) (s : Bare S H) (a : Part) → s.control.kernel.trace ≡ trace → now_of s.control ≤ m → now_of (part_by bare x s a).state.control ≤ m → (part_by bare x s a).turn.outcome ≢ Stalled → IsAsked s a
   unfolding moves closes
   asked_same x s Move kept before within goes_on = move_same x s (moment bare s) refl kept within goes_on
   asked_same x s Take kept before within goes_on = tt
-  asked_same x s (Step t) kept before within goes_on = (shows_up_to m trace other s.control.kernel same kept before, gives_own (f p) (blocked_of s.control t) (s.control.threads.progress t) s.control.shared)
+  asked_same x s (Step t) kept before within goes_on = (
+    asks_left other s.control (shows_up_to m trace other s.control.kernel same kept before),
+    gives_own (f p) (blocked_of s.control t) (s.control.threads.progress t) s.control.shared,
+    call_is_left other p f (f p).step (blocked_of s.control t) (s.control.threads.progress t) s.control.shared,
+  )
   asked_same x s (Close t) kept before within goes_on =
       let u = controlled (turn_ends t) s in
-      shows_up_to m trace other u.control.kernel same (ap (λ (k : Kernel). k.trace) (ends_kernel t s) ∙ kept) (subst (λ (k : Kernel). k.now ≤ m) (pass_kernel bare u) within)
+      asks_left other u.control (shows_up_to m trace other u.control.kernel same (ap (λ (k : Kernel). k.trace) (ends_kernel t s) ∙ kept) (subst (λ (k : Kernel). k.now ≤ m) (pass_kernel bare u) within))
   asked_same x s Halt kept before within goes_on = tt
 
 module _ {P S H : Type 0} (f : P → Functions S H) where
   pub traces_agree : (g : Given P) (trace : List Stamp) (m i : ℕ) → AreSameUpTo m g.kernel.trace trace → NeverPastUpTo m f g i → run f (given_trace trace g) i ≡ with_trace trace (run f g i)
   unfolding parts part
-  traces_agree g trace m i same never = run_same g.program trace f (f g.program).step (bare_given g) i asked ∙ sym (ap (with_trace trace) (run_bare f g i))
+  traces_agree g trace m i same never = run_same g.program (only_trace trace) f (f g.program).step (bare_given g) i asked ∙ sym (ap (with_trace trace) (run_bare f g i))
     where
       now_within : (j : ℕ) → j ≤ i → now_of (run (own f g.program) (bare_given g) j).state.control ≤ m
       now_within j before = subst (λ (c : Course P S H). now_of c.state.control ≤ m) (run_bare f g j) (never j before).now
@@ -180,7 +184,7 @@ module _ {P S H : Type 0} (f : P → Functions S H) where
       not_stalled : (j : ℕ) → j ≤ i → (run (own f g.program) (bare_given g) j).turn.outcome ≢ Stalled
       not_stalled j before = subst (λ (c : Course P S H). c.turn.outcome ≢ Stalled) (run_bare f g j) (never j before).goes_on
 
-      asked : (j : ℕ) → j < i → let c = run (own f g.program) (bare_given g) j in PartSame g.program trace f (f g.program).step c.state (next_part c.state c.turn)
+      asked : (j : ℕ) → j < i → let c = run (own f g.program) (bare_given g) j in PartSame g.program (only_trace trace) f (f g.program).step c.state (next_part c.state c.turn)
       asked j before =
           let c = run (own f g.program) (bare_given g) j in
           asked_same g.program m g.kernel.trace trace same f c.turn c.state (next_part c.state c.turn) (own_trace (own f g.program) (bare_given g) j) (now_within j (le_of_lt before)) (now_within (suc j) before) (not_stalled (suc j) before)

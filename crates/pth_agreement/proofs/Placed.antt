@@ -1,7 +1,7 @@
--- A state without its program and its trace, and the same state with both: pieces of the machine that do the same to the two.
+-- A state without its program and its kernel, and the same state with both: pieces of the machine that do the same to the two.
 use Rattle.std.proofs.Common.{◌≡◌, Bool, true, false, List, [], ◌∷◌, ◌++◌, refl, ◌∙◌, ap}
 use Rattle.pth_base.specs.declared.mark.Mark.{Mark}
-use Rattle.pth_kernel.specs.declared.trace.Stamp.{Stamp}
+use Rattle.pth_agreement.proofs.Others.{Others, other_kernel}
 use Rattle.pth_model.specs.declared.next.Next.{Next}
 use Rattle.pth_model.specs.State.{State, Control}
 use Rattle.pth_model.specs.Transition.{Transition, Piece, Change, Went, Last, changes, tells, tells_each, where_so, ◌and◌, ◌and_then◌, ◌and_next◌, ◌and_finally◌}
@@ -11,7 +11,7 @@ use Rattle.pth_model.specs.Row.{Attempt, refuses, effect_of, unless_refused}
 abbrev pub Bare : Type 0 → Type 0 → Type 0
 Bare S H = State (Unit {0}) S H
 
-module _ {P S H : Type 0} (p : P) (trace : List Stamp) where
+module _ {P S H : Type 0} (p : P) (other : Others) where
   abbrev pub placed_control : Control (Unit {0}) S H → Control P S H
   placed_control k = record {
     program = p;
@@ -21,13 +21,13 @@ module _ {P S H : Type 0} (p : P) (trace : List Stamp) where
     events = k.events;
     conditions = k.conditions;
     barriers = k.barriers;
-    kernel = record k.kernel { trace = trace };
+    kernel = other_kernel other k.kernel;
     used = k.used;
     scheduler = k.scheduler;
     top = k.top;
   }
 
-  -- with this program and this trace
+  -- with this program and this kernel
   abbrev pub placed : Bare S H → State P S H
   placed s = record { resources = s.resources; control = placed_control s.control }
 

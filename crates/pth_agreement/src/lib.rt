@@ -1,6 +1,7 @@
 //! When the runs of two programs agree.
 #![tactic(auto)]
 
+pub mod descriptors;
 pub mod example;
 pub mod runs;
 pub mod scripts;
