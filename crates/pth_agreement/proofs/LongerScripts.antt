@@ -15,8 +15,7 @@ use Rattle.pth_operand.specs.declared.operand.Register.{Register}
 use Rattle.pth_operand.specs.declared.operand.Register.TheVariants as reg
 use Rattle.pth_model.specs.Run.{run}
 use Rattle.pth_model.specs.State.{Given}
-use Rattle.pth_agreement.specs.Agreement.{DifferInSteps, with_program}
-use Rattle.pth_agreement.specs.Scripts.{lines_added, longer, NeverAtEndUpTo}
+use Rattle.pth_agreement.specs.Scripts.{lines_added, longer, NeverAtEndUpTo, AgreesWithLines}
 use Rattle.pth_agreement.proofs.WholeRuns.{programs_agree}
 
 -- as many bodies, and the same lines but at the end of body b
@@ -74,10 +73,13 @@ same_step b lines bodies f c a before =
     let at = heard_stays a (scope f c) in
     ap (λ o. does_next o s) (same_line b lines bodies s.frame.body s.frame.line (λ same. subst (λ n. n < length (slice_index_or bodies b [])) (sym at.1) (before (sym at.0 ∙ same))))
 
-differs : (b : ℕ) (lines : List Line) (s : Sections) → DifferInSteps (functions_of s) (functions_of (longer b lines s))
+others_same : (b : ℕ) (lines : List Line) (s : Sections) → functions_of (longer b lines s) ≡ record (functions_of s) { step = (functions_of (longer b lines s)).step }
 unfolding functions_of
-differs b lines s = ap (λ n. record (functions_of s) { bodies = n; step = (functions_of (longer b lines s)).step }) (as_many b lines s.bodies)
+others_same b lines s = ap (λ n. record (functions_of s) { bodies = n; step = (functions_of (longer b lines s)).step }) (as_many b lines s.bodies)
 
-pub scripts_agree : (g : Given Sections) (b : ℕ) (lines : List Line) (i : ℕ) → NeverAtEndUpTo b g i → run functions_of (record g { program = longer b lines g.program }) i ≡ with_program (longer b lines g.program) (run functions_of g i)
+pub lines_agree : (b : ℕ) (lines : List Line) (g : Given Sections) (i : ℕ) → NeverAtEndUpTo b g i → AgreesWithLines b lines g i
 unfolding functions_of
-scripts_agree g b lines i never = programs_agree functions_of g (longer b lines g.program) i (differs b lines g.program) (λ j t p before asks. same_step b lines g.program.bodies p.state (run functions_of g j).state.control.shared p.owed (never j t p before asks))
+lines_agree b lines g i never = programs_agree functions_of g (longer b lines g.program) i (record {
+  others = others_same b lines g.program;
+  steps = λ j t p before asks. same_step b lines g.program.bodies p.state (run functions_of g j).state.control.shared p.owed (never j t p before asks);
+})

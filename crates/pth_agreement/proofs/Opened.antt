@@ -17,7 +17,7 @@ use Rattle.pth_model.specs.Course.{Course}
 use Rattle.pth_model.specs.Part.{Part, Move, Take, Step, Close, Halt, next_part, placed_by, is_placed, is_put_back, is_put_waiting, turn_ends}
 use Rattle.pth_model.specs.Run.{run}
 use Rattle.pth_model.specs.State.{Control, Given, now_of}
-use Rattle.pth_agreement.specs.Descriptors.{IsNoneOf, AsksNothingOf, NeverAsksUpTo, asked_by_call, asked_by_wait, asked_by_event, given_opened, with_opened}
+use Rattle.pth_agreement.specs.Descriptors.{IsNoneOf, AsksNothingOf, NeverAsksUpTo, asked_by_call, asked_by_wait, asked_by_event, with_opened, AgreesWithOpened}
 use Rattle.pth_agreement.proofs.Others.{Others, AllLeft}
 use Rattle.pth_agreement.proofs.Placed.{Bare}
 use Rattle.pth_agreement.proofs.Kernels.{ShowsSame, WaitLeft, EventLeft, AsksLeft}
@@ -138,7 +138,7 @@ module _ {P S H : Type 0} (f : P → Functions S H) (g : Given P) (d : ℕ) wher
     part_asked (Close t) next = let same = ends_asks t s.control in asks_now (turn_ends t s.control) (ap (λ (k : Kernel). k.trace) (ends_kernel t s) ∙ kept) same.0 same.1
     part_asked Halt next = tt
 
-  pub opened_agree : (i : ℕ) → NeverAsksUpTo d f g i → run f (given_opened d g) i ≡ with_opened d (run f g i)
+  pub opened_agree : (i : ℕ) → NeverAsksUpTo d f g i → AgreesWithOpened f g d i
   opened_agree i never =
       run_same g.program other f (f g.program).step (bare_given g) i (λ j before.
       let c = run bare (bare_given g) j in

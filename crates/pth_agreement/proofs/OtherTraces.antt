@@ -17,7 +17,7 @@ use Rattle.pth_model.specs.Pass.{pass, looks, to_wake, woken, all_woken, is_read
 use Rattle.pth_model.specs.Run.{parts, run}
 use Rattle.pth_model.specs.State.{State, Given, Turn, now_of}
 use Rattle.pth_model.specs.Transition.{controlled, tells}
-use Rattle.pth_agreement.specs.Traces.{up_to, AreSameUpTo, NeverPastUpTo, given_trace, with_trace}
+use Rattle.pth_agreement.specs.Traces.{up_to, DiffersLater, AgreesWithTrace, with_trace}
 use Rattle.pth_agreement.proofs.Placed.{Bare}
 use Rattle.pth_agreement.proofs.Parts.{PartSame}
 use Rattle.pth_agreement.proofs.WholeRuns.{only_trace, asks_left, call_is_left, bare_given, ends_kernel, gives_own, own, own_trace, run_same, run_bare}
@@ -39,7 +39,7 @@ both_hold true b h = h
 both_hold false b h = absurd (true≢false (sym h))
 
 -- a kernel that is not past the moment shows the same
-pub shows_up_to : (m : ℕ) (a b : List Stamp) (k : Kernel) → AreSameUpTo m a b → k.trace ≡ a → k.now ≤ m → ShowsSame (only_trace b) k
+pub shows_up_to : (m : ℕ) (a b : List Stamp) (k : Kernel) → up_to m b ≡ up_to m a → k.trace ≡ a → k.now ≤ m → ShowsSame (only_trace b) k
 unfolding came_to
 shows_up_to m a b k same at now = λ i f. map (λ (s : Stamp). s.what) (shown f i)
   where
@@ -117,7 +117,7 @@ times_up_to m (s ∷ trace) = by_test (nat_le s.at m) (times_up_to m trace)
     by_test false same = same
 
 -- the next moment, if it is not later than m
-pub next_same : (now m x : ℕ) (ms : List ℕ) (a b : List Stamp) → AreSameUpTo m a b → x ≤ m → least_after now (map (λ (s : Stamp). s.at) a ++ ms) ≡ Some x → least_after now (map (λ (s : Stamp). s.at) b ++ ms) ≡ Some x
+pub next_same : (now m x : ℕ) (ms : List ℕ) (a b : List Stamp) → up_to m b ≡ up_to m a → x ≤ m → least_after now (map (λ (s : Stamp). s.at) a ++ ms) ≡ Some x → least_after now (map (λ (s : Stamp). s.at) b ++ ms) ≡ Some x
 next_same now m x ms a b same within next =
     at_most_some m x (least_after now (map (λ (s : Stamp). s.at) b ++ ms)) (
     sym (least_up_to now m (map (λ (s : Stamp). s.at) b ++ ms)) ∙ ap (least_after now) (parted b)
@@ -142,7 +142,7 @@ pass_kernel : {P S H : Type 0} (f : P → Functions S H) (s : State P S H) → (
 unfolding pass looks
 pass_kernel f s = woken_kernel (to_wake f s) (controlled (looks f s) s)
 
-module _ {P S H : Type 0} (p : P) (m : ℕ) (trace other : List Stamp) (same : AreSameUpTo m trace other) (f : P → Functions S H) where
+module _ {P S H : Type 0} (p : P) (m : ℕ) (trace other : List Stamp) (same : up_to m other ≡ up_to m trace) (f : P → Functions S H) where
   abbrev bare : Unit {0} → Functions S H
   bare u = f p
 
@@ -174,17 +174,17 @@ module _ {P S H : Type 0} (p : P) (m : ℕ) (trace other : List Stamp) (same : A
   asked_same x s Halt kept before within goes_on = tt
 
 module _ {P S H : Type 0} (f : P → Functions S H) where
-  pub traces_agree : (g : Given P) (trace : List Stamp) (m i : ℕ) → AreSameUpTo m g.kernel.trace trace → NeverPastUpTo m f g i → run f (given_trace trace g) i ≡ with_trace trace (run f g i)
+  pub traces_agree : (g : Given P) (trace : List Stamp) (i : ℕ) → DiffersLater f g trace i → AgreesWithTrace f g trace i
   unfolding parts part
-  traces_agree g trace m i same never = run_same g.program (only_trace trace) f (f g.program).step (bare_given g) i asked ∙ sym (ap (with_trace trace) (run_bare f g i))
+  traces_agree g trace i differs = run_same g.program (only_trace trace) f (f g.program).step (bare_given g) i asked ∙ sym (ap (with_trace trace) (run_bare f g i))
     where
-      now_within : (j : ℕ) → j ≤ i → now_of (run (own f g.program) (bare_given g) j).state.control ≤ m
-      now_within j before = subst (λ (c : Course P S H). now_of c.state.control ≤ m) (run_bare f g j) (never j before).now
+      now_within : (j : ℕ) → j ≤ i → now_of (run (own f g.program) (bare_given g) j).state.control ≤ differs.moment
+      now_within j before = subst (λ (c : Course P S H). now_of c.state.control ≤ differs.moment) (run_bare f g j) (differs.not_past j before).now
 
       not_stalled : (j : ℕ) → j ≤ i → (run (own f g.program) (bare_given g) j).turn.outcome ≢ Stalled
-      not_stalled j before = subst (λ (c : Course P S H). c.turn.outcome ≢ Stalled) (run_bare f g j) (never j before).goes_on
+      not_stalled j before = subst (λ (c : Course P S H). c.turn.outcome ≢ Stalled) (run_bare f g j) (differs.not_past j before).not_stalled
 
       asked : (j : ℕ) → j < i → let c = run (own f g.program) (bare_given g) j in PartSame g.program (only_trace trace) f (f g.program).step c.state (next_part c.state c.turn)
       asked j before =
           let c = run (own f g.program) (bare_given g) j in
-          asked_same g.program m g.kernel.trace trace same f c.turn c.state (next_part c.state c.turn) (own_trace (own f g.program) (bare_given g) j) (now_within j (le_of_lt before)) (now_within (suc j) before) (not_stalled (suc j) before)
+          asked_same g.program differs.moment g.kernel.trace trace differs.same f c.turn c.state (next_part c.state c.turn) (own_trace (own f g.program) (bare_given g) j) (now_within j (le_of_lt before)) (now_within (suc j) before) (not_stalled (suc j) before)

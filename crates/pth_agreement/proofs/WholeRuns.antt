@@ -14,7 +14,7 @@ use Rattle.pth_model.specs.Part.{Part, Move, Take, Step, Close, Halt, next_part,
 use Rattle.pth_model.specs.Run.{parts, run}
 use Rattle.pth_model.specs.State.{State, Control, Given, start, now_of, clock_of}
 use Rattle.pth_model.specs.Transition.{controlled}
-use Rattle.pth_agreement.specs.Agreement.{DifferInSteps, StepsAlikeUpTo, with_program}
+use Rattle.pth_agreement.specs.Agreement.{IsAlikeUpTo, AgreesWithProgram, with_program}
 use Rattle.pth_agreement.proofs.Placed.{Bare}
 use Rattle.pth_agreement.proofs.Kernels.{ShowsSame, WaitLeft, EventLeft, AsksLeft}
 use Rattle.pth_agreement.proofs.Others.{Others, other_kernel, AllLeft}
@@ -154,17 +154,17 @@ module _ {P S H : Type 0} (f : P → Functions S H) where
   trace_kept g i = ap (λ (c : Course P S H). c.state.control.kernel.trace) (run_bare g i)
 
   -- another program, whose steps give the same
-  pub programs_agree : (g : Given P) (q : P) (i : ℕ) → DifferInSteps (f g.program) (f q) → StepsAlikeUpTo f g q i → run f (record g { program = q }) i ≡ with_program q (run f g i)
-  programs_agree g q i differ alike =
+  pub programs_agree : (g : Given P) (q : P) (i : ℕ) → IsAlikeUpTo f g q i → AgreesWithProgram f g q i
+  programs_agree g q i alike =
       let trace = g.kernel.trace in
       let step = (f g.program).step in
-      let same : stepping_so f q step ≡ own g.program = λ j u. record (differ j) { step = step } in
+      let same : stepping_so f q step ≡ own g.program = λ j u. record (alike.others j) { step = step } in
       let asked : (j : ℕ) → j < i → let c = run (own g.program) (bare_given g) j in PartSame q (only_trace trace) f step c.state (next_part c.state c.turn) = λ j before.
       let c = run (own g.program) (bare_given g) j in
       own_part q trace f step c.state (next_part c.state c.turn) (own_trace (own g.program) (bare_given g) j) (λ t next.
       let same_run = run_bare g j in
       gives_asked (f g.program) (f q) (c.state.control.threads.progress t) c.state.control.shared (λ o at free.
-      subst (λ (d : Course P S H). (f q).step o.state d.state.control.shared o.owed ≡ (f g.program).step o.state d.state.control.shared o.owed) same_run (alike j t o before (record {
+      subst (λ (d : Course P S H). (f q).step o.state d.state.control.shared o.owed ≡ (f g.program).step o.state d.state.control.shared o.owed) same_run (alike.steps j t o before (record {
         steps = ap (λ (d : Course P S H). next_part d.state d.turn) same_run ∙ next_part_same g.program (only_trace trace) c.state c.turn ∙ next;
         is_so_far = ap (λ (d : Course P S H). d.state.control.threads.progress t) same_run ∙ at;
         unblocked = free;

@@ -18,7 +18,7 @@ use Rattle.pth_model.specs.Changes.{blocked_of}
 use Rattle.pth_model.specs.Course.{Course}
 use Rattle.pth_model.specs.Run.{run}
 use Rattle.pth_model.specs.State.{Given}
-use Rattle.pth_agreement.specs.Agreement.{AsksForCall}
+use Rattle.pth_agreement.specs.Agreement.{AsksForCall, given_to}
 
 -- those of three sets
 abbrev pub in_sets : FdSet → FdSet → FdSet → List ℕ
@@ -62,7 +62,7 @@ module _ {P S H : Type 0} where
   pub record AsksNothingOf (d : ℕ) (a : Functions S H) (c : Course P S H) : Type 0 where
     pub waits : (t : ℕ) (b : Blocked) → blocked_of c.state.control t ≡ Some b → IsNoneOf d (asked_by_wait b.awaits)
     pub events : (e : ℕ) (x : Event) → c.state.control.events.events e ≡ Some x → IsNoneOf d (asked_by_event x.spec)
-    pub calls : (t : ℕ) (p : Progress S) → AsksForCall c t p → IsNoneOf d (asked_by_call (a.step p.state c.state.control.shared p.owed).call)
+    pub calls : (t : ℕ) (p : Progress S) → AsksForCall c t p → IsNoneOf d (asked_by_call (given_to a p c).call)
 
   -- nor did they at any part before part i
   abbrev pub NeverAsksUpTo : (d : ℕ) → (P → Functions S H) → Given P → (i : ℕ) → Type 0
@@ -79,3 +79,7 @@ module _ {P S H : Type 0} where
   -- a run that came so far, in whose state d is open
   abbrev pub with_opened : ℕ → Course P S H → Course P S H
   with_opened d c = record c { state = record c.state { control = record c.state.control { kernel = opened d c.state.control.kernel } } }
+
+  -- after i parts the run in which d is open from the start differs from the run only in that d is open
+  abbrev pub AgreesWithOpened : (P → Functions S H) → Given P → ℕ → ℕ → Type 0
+  AgreesWithOpened f g d i = run f (given_opened d g) i ≡ with_opened d (run f g i)

@@ -6,7 +6,7 @@ use Rattle.pth_operand.specs.declared.frame.Frame.{Frame}
 use Rattle.pth_model.specs.declared.progress.Progress.{Progress}
 use Rattle.pth_model.specs.Run.{run}
 use Rattle.pth_model.specs.State.{Given}
-use Rattle.pth_agreement.specs.Agreement.{AsksForCall}
+use Rattle.pth_agreement.specs.Agreement.{AsksForCall, AgreesWithProgram}
 
 -- these lines behind those of body b, if there is such a body
 abbrev pub lines_added : ℕ → List Line → List (List Line) → List (List Line)
@@ -26,3 +26,7 @@ abbrev pub NeverAtEndUpTo : (b : ℕ) → Given Sections → (i : ℕ) → Type 
 NeverAtEndUpTo b g i =
     (j t : ℕ) (p : Progress Frame) → j < i → AsksForCall (run functions_of g j) t p
     → p.state.body ≡ b → p.state.line < lines_in g.program b
+
+-- after i parts the run of the script with these lines more differs from the run only in its script
+abbrev pub AgreesWithLines : (b : ℕ) → List Line → Given Sections → (i : ℕ) → Type 0
+AgreesWithLines b lines g i = AgreesWithProgram functions_of g (longer b lines g.program) i

@@ -11,9 +11,6 @@ use Rattle.pth_model.specs.State.{Given, now_of}
 abbrev pub up_to : ℕ → List Stamp → List Stamp
 up_to m trace = filter (λ (s : Stamp). nat_le s.at m) trace
 
-abbrev pub AreSameUpTo : ℕ → (a b : List Stamp) → Type 0
-AreSameUpTo m a b = up_to m b ≡ up_to m a
-
 -- what is given, with another trace
 abbrev pub given_trace : {P : Type 0} → List Stamp → Given P → Given P
 given_trace trace g = record g { kernel = record g.kernel { trace = trace } }
@@ -22,12 +19,19 @@ module _ {P S H : Type 0} where
   -- a run that came so far is not past a moment, and not stalled for want of what comes later
   pub record IsNotPast (m : ℕ) (c : Course P S H) : Type 0 where
     pub now : now_of c.state.control ≤ m
-    pub goes_on : c.turn.outcome ≢ Stalled
+    pub not_stalled : c.turn.outcome ≢ Stalled
 
-  -- nor was it at any part up to part i
-  abbrev pub NeverPastUpTo : ℕ → (P → Functions S H) → Given P → (i : ℕ) → Type 0
-  NeverPastUpTo m f g i = (j : ℕ) → j ≤ i → IsNotPast m (run f g j)
+  -- a trace differs from the run's own only in what is later than the run at part i
+  pub record DiffersLater (f : P → Functions S H) (g : Given P) (trace : List Stamp) (i : ℕ) : Type 0 where
+    -- up to this moment both are the same, and the run is not past it at any part up to part i
+    pub moment : ℕ
+    pub same : up_to moment trace ≡ up_to moment g.kernel.trace
+    pub not_past : (j : ℕ) → j ≤ i → IsNotPast moment (run f g j)
 
   -- a run that came so far, with another trace in its state
   abbrev pub with_trace : List Stamp → Course P S H → Course P S H
   with_trace trace c = record c { state = record c.state { control = record c.state.control { kernel = record c.state.control.kernel { trace = trace } } } }
+
+  -- after i parts the run with this trace differs from the run only in its trace
+  abbrev pub AgreesWithTrace : (P → Functions S H) → Given P → List Stamp → ℕ → Type 0
+  AgreesWithTrace f g trace i = run f (given_trace trace g) i ≡ with_trace trace (run f g i)

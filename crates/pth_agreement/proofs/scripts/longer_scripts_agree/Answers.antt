@@ -1,5 +1,5 @@
-use Rattle.pth_agreement.proofs.LongerScripts.{scripts_agree}
+use Rattle.pth_agreement.proofs.LongerScripts.{lines_agree}
 use Rattle.pth_agreement.proofs.scripts.longer_scripts_agree.Goals as goal
 
 pub returns : goal.returns
-returns c = λ g b lines i never. scripts_agree g b lines i never
+returns c = record { agrees = λ b lines g i never. lines_agree b lines g i never }

@@ -27,7 +27,7 @@ use Rattle.pth_operand.specs.declared.frame.Frame.{Frame}
 use Rattle.pth_model.specs.declared.progress.Progress.{Progress}
 use Rattle.pth_agreement.specs.Agreement.{AsksForCall}
 use Rattle.pth_agreement.specs.Example.{one_note}
-use Rattle.pth_agreement.proofs.example.a_note_more.Goals as goal
+use Rattle.pth_agreement.proofs.example.a_line_more.Goals as goal
 
 step_same : (t u : ℕ) → Step t ≡ Step u → t ≡ u
 step_same t u same = cc same
