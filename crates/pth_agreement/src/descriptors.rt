@@ -9,5 +9,6 @@ use pth_base::program::Program;
 /// If no call, wait or event asks of a descriptor at any part before part i, then the run in which it is open from the start agrees with
 /// the run up to part i, in all but that the descriptor is open: in the state, in the turn and in the marks.
 pub fn opened_descriptors_agree<P: Program>()
-    ensures agrees { (g : Given P) (d i : ℕ) → NeverAsksUpTo d P.functions g i → AgreesWithOpened P.functions g d i }
+    ensures agrees { (g : Given P) (d i : ℕ) → NeverAsksUpTo d P.functions g i
+        → AgreesWithOpened P.functions g d i }
 {}

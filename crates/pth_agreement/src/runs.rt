@@ -15,5 +15,6 @@ pub fn every_run_keeps_its_program<P: Program>()
 /// If another program has the same bodies, checks and handlers, and gives the same call in each step that a run makes before part i, then
 /// its run agrees with the run up to part i, in all but the program: in the state, in the turn and in the marks.
 pub fn runs_agree<P: Program>()
-    ensures agrees { (g : Given P) (q : P) (i : ℕ) → IsAlikeUpTo P.functions g q i → AgreesWithProgram P.functions g q i }
+    ensures agrees { (g : Given P) (q : P) (i : ℕ) → IsAlikeUpTo P.functions g q i
+        → AgreesWithProgram P.functions g q i }
 {}

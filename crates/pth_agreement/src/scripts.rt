@@ -9,5 +9,6 @@ ghost use Rattle.pth_agreement.specs.Scripts.{NeverAtEndUpTo, AgreesWithLines};
 /// If no thread makes a step at the end of a body before part i, then the run of the script with further lines at the end of that body
 /// agrees with the run up to part i, in all but the script: in the state, in the turn and in the marks.
 pub fn longer_scripts_agree()
-    ensures agrees { (b : ℕ) (lines : List Line) (g : Given Sections) (i : ℕ) → NeverAtEndUpTo b g i → AgreesWithLines b lines g i }
+    ensures agrees { (b : ℕ) (lines : List Line) (g : Given Sections) (i : ℕ) → NeverAtEndUpTo b g i
+        → AgreesWithLines b lines g i }
 {}

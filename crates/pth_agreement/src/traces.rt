@@ -16,5 +16,6 @@ pub fn every_run_keeps_its_trace<P: Program>()
 /// If a trace differs from that of a run only in stamps that are later than the run at part i, and the run is not stalled there, then the
 /// run with that trace agrees with the run up to part i, in all but the trace: in the state, in the turn and in the marks.
 pub fn later_stamps_agree<P: Program>()
-    ensures agrees { (g : Given P) (trace : List Stamp) (i : ℕ) → DiffersLater P.functions g trace i → AgreesWithTrace P.functions g trace i }
+    ensures agrees { (g : Given P) (trace : List Stamp) (i : ℕ) → DiffersLater P.functions g trace i
+        → AgreesWithTrace P.functions g trace i }
 {}
