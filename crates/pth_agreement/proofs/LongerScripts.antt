@@ -1,5 +1,5 @@
 -- A script with further lines at the end of a body: which steps give the same.
-use Rattle.std.proofs.Common.{◌≡◌, ◌<◌, ℕ, zero, suc, List, [], ◌∷◌, ◌++◌, length, slice_get, slice_index_or, option_and_then, Option, Some, None, ℤ, refl, ap, sym, ◌∙◌, subst, not-suc-le-zero, le_of_suc-le-suc}
+use Rattle.std.proofs.Common.{◌≡◌, ◌<◌, ℕ, zero, suc, List, [], ◌∷◌, ◌++◌, length, slice_get, slice_index_or, option_and_then, Option, Some, None, ℤ, refl, ap, sym, ◌∙◌, subst, not-suc-le-zero, le_of_suc-le-suc, ◌≤◌, zero-le, suc-le-suc, le_refl, lt_trans, lt_of_lt_of_le}
 use Rattle.pth_base.specs.declared.answer.Answer.{Answer}
 use Rattle.pth_base.specs.declared.answer.Answer.TheVariants as answer
 use Rattle.pth_line.specs.LineSteps.{stepped, does_next}
@@ -13,9 +13,13 @@ use Rattle.pth_operand.specs.declared.frame.Owed.{Owed}
 use Rattle.pth_operand.specs.declared.frame.Owed.TheVariants as owed
 use Rattle.pth_operand.specs.declared.operand.Register.{Register}
 use Rattle.pth_operand.specs.declared.operand.Register.TheVariants as reg
+use Rattle.pth_model.specs.Course.{Course}
+use Rattle.pth_model.specs.Part.{next_part}
+use Rattle.pth_model.specs.declared.progress.Progress.{Progress}
 use Rattle.pth_model.specs.Run.{run}
 use Rattle.pth_model.specs.State.{Given}
-use Rattle.pth_agreement.specs.Scripts.{lines_added, longer, NeverAtEndUpTo, AgreesWithLines}
+use Rattle.pth_agreement.specs.Agreement.{AsksForCall, with_program}
+use Rattle.pth_agreement.specs.Scripts.{lines_added, longer, given_longer, NeverAtEndUpTo, AgreesWithLines}
 use Rattle.pth_agreement.proofs.WholeRuns.{programs_agree}
 
 -- as many bodies, and the same lines but at the end of body b
@@ -83,3 +87,28 @@ lines_agree b lines g i never = programs_agree functions_of g (longer b lines g.
   others = others_same b lines g.program;
   steps = λ j t p before asks. same_step b lines g.program.bodies p.state (run functions_of g j).state.control.shared p.owed (never j t p before asks);
 })
+
+-- ---- more lines again
+
+longer_by : (x lines : List Line) → length x ≤ length (x ++ lines)
+longer_by [] lines = zero-le
+longer_by (y ∷ x) lines = suc-le-suc (longer_by x lines)
+
+no_fewer : (b c : ℕ) (lines : List Line) (bodies : List (List Line)) → length (slice_index_or bodies c []) ≤ length (slice_index_or (lines_added b lines bodies) c [])
+no_fewer b c lines [] = le_refl 0
+no_fewer zero zero lines (x ∷ xs) = longer_by x lines
+no_fewer zero (suc c) lines (x ∷ xs) = le_refl (length (slice_index_or xs c []))
+no_fewer (suc b) zero lines (x ∷ xs) = le_refl (length x)
+no_fewer (suc b) (suc c) lines (x ∷ xs) = no_fewer b c lines xs
+
+-- who asks in the run of the longer script asks in the run
+asks_too : (c : Course Sections Frame Cells) (q : Sections) (t : ℕ) (p : Progress Frame) → AsksForCall (with_program q c) t p → AsksForCall c t p
+unfolding next_part
+asks_too c q t p asks = record { steps = asks.steps; is_so_far = asks.is_so_far; unblocked = asks.unblocked }
+
+pub never_again : (b c : ℕ) (lines : List Line) (g : Given Sections) (i : ℕ) → NeverAtEndUpTo b g i → NeverAtEndUpTo c g i → NeverAtEndUpTo c (given_longer b lines g) i
+never_again b c lines g i never nor_there j t p before asks same =
+    let q = longer b lines g.program in
+    let agrees = lines_agree b lines g j (λ k u o earlier. never k u o (lt_trans earlier before)) in
+    let too = asks_too (run functions_of g j) q t p (subst (λ (d : Course Sections Frame Cells). AsksForCall d t p) agrees asks) in
+    lt_of_lt_of_le (nor_there j t p before too same) (no_fewer b c lines g.program.bodies)

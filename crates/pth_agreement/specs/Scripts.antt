@@ -17,6 +17,9 @@ lines_added (suc b) lines (x ∷ xs) = x ∷ lines_added b lines xs
 abbrev pub longer : ℕ → List Line → Sections → Sections
 longer b lines s = record s { bodies = lines_added b lines s.bodies }
 
+abbrev pub given_longer : ℕ → List Line → Given Sections → Given Sections
+given_longer b lines g = record g { program = longer b lines g.program }
+
 -- how many lines body b has
 abbrev pub lines_in : Sections → ℕ → ℕ
 lines_in s b = length (slice_index_or s.bodies b [])
