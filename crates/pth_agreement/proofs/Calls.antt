@@ -58,7 +58,7 @@ module _ {P S H : Type 0} (p : P) (other : Others) where
     begun_by_same : (c : Call) (v : Verdict) → GoSame p other (begun_by bare t c v) (begun_by f t c v)
     begun_by_same c (Says x) s = refl
     begun_by_same c (Yields x) s = refl
-    begun_by_same c (Blocks a) s = next_same p other (waits_by t c a) (waits_by t c a) next.Waits (waits_same t c a) s
+    begun_by_same c (Blocks a) s = next_same p other (waits_by t c a) (waits_by t c a) next.Blocks (waits_same t c a) s
     begun_by_same c (Ends v) s = ends_same v s
     begun_by_same c Kills s = refl
 
@@ -88,7 +88,7 @@ module _ {P S H : Type 0} (p : P) (other : Others) where
     tried_by_same b (Blocks a) s =
         let o = Some (record b { awaits = a }) in
         let m = mark.Waits (tid t) b.call in
-        next_same p other (changes (is_blocked_by t o) and_then tells m) (changes (is_blocked_by t o) and_then tells m) next.Waits
+        next_same p other (changes (is_blocked_by t o) and_then tells m) (changes (is_blocked_by t o) and_then tells m) next.Blocks
         (then_same p other (changes (is_blocked_by t o)) (tells m) (changes (is_blocked_by t o)) (tells m) (changes_same p other (is_blocked_by t o) (is_blocked_by t o) (blocked_same p other t o)) (λ u. refl)) s
     tried_by_same b (Ends v) s = ends_same v s
     tried_by_same b Kills s = let x = answer.Int (pos 1) in next_same p other (answers bare t b.call x) (answers f t b.call x) next.Killed (answers_same b.call x) s
@@ -132,7 +132,7 @@ module _ {P S H : Type 0} (p : P) (other : Others) where
         let k = mark.Retakes (tid t) c in
         let b = blocks t c (awaits.Retaking m o) in
         let d = blocks t c (awaits.Retaking m o) in
-        next_same p other (changes b and_then tells k) (changes d and_then tells k) next.Waits
+        next_same p other (changes b and_then tells k) (changes d and_then tells k) next.Blocks
         (then_same p other (changes b) (tells k) (changes d) (tells k) (changes_same p other b d (blocked_same p other t (Some (record { call = c; awaits = awaits.Retaking m o })))) (λ u. refl)) s
 
     ends_await_same : (g : Change (Unit {0}) S H) (h : Change P S H) (c : Call) (m : ℤ) (o : Retake) → AreSame p other g h → GoSame p other (ends_await bare t g c m o) (ends_await f t h c m o)

@@ -16,7 +16,7 @@ use Rattle.pth_model.specs.declared.awaits.Awaited.{Awaited}
 use Rattle.pth_model.specs.declared.awaits.Awaits.{Awaits}
 use Rattle.pth_model.specs.declared.awaits.Awaits.TheVariants as awaits
 use Rattle.pth_model.specs.declared.destructors.Due.{Due}
-use Rattle.pth_model.specs.declared.destructors.Round.{Round}
+use Rattle.pth_model.specs.declared.destructors.DestructorRound.{DestructorRound}
 use Rattle.pth_model.specs.declared.verdict.Verdict.{Verdict}
 use Rattle.pth_model.specs.Acts.{acts, acts_by, acts_from, act_limit, answer_in, row_of_act, goes_on_after, handled, runs_handler}
 use Rattle.pth_model.specs.Barriers.{withdraws, withdraws_from}
@@ -129,14 +129,14 @@ module _ {P S H : Type 0} (p : P) (other : Others) where
     cleanups_same t [] s = refl
     cleanups_same t (c ∷ cs) s = then_same p other (runs_handler bare t c.0 c.1) (runs_each bare t cs) (runs_handler f t c.0 c.1) (runs_each f t cs) (handler_same t c.0 c.1) (cleanups_same t cs) s
 
-    due_same : (t : ℕ) (o : Option Due) (a : Round → Piece (Unit {0}) S H) (b : Round → Piece P S H) → ((r : Round) → DoSame p other (a r) (b r)) → DoSame p other (destructs_by bare t o a) (destructs_by f t o b)
+    due_same : (t : ℕ) (o : Option Due) (a : DestructorRound → Piece (Unit {0}) S H) (b : DestructorRound → Piece P S H) → ((r : DestructorRound) → DoSame p other (a r) (b r)) → DoSame p other (destructs_by bare t o a) (destructs_by f t o b)
     due_same t None a b same s = refl
     due_same t (Some d) a b same s =
         let m = mark.Destructor (tid t) d.key d.value in
         then_same p other (runs_destructor bare t d) (a d.round) (runs_destructor f t d) (b d.round)
         (then_same p other (tells m) (handled bare t d.handler d.value) (tells m) (handled f t d.handler d.value) (λ u. refl) (acts_from_same t d.handler d.value (suc act_limit) 0)) (same d.round) s
 
-    destructs_same : (t n : ℕ) (r : Round) → DoSame p other (destructs bare t n r) (destructs f t n r)
+    destructs_same : (t n : ℕ) (r : DestructorRound) → DoSame p other (destructs bare t n r) (destructs f t n r)
     unfolding destructs
     destructs_same t zero r s = refl
     destructs_same t (suc n) r s = due_same t (next_destructor s.resources.store.keys t r) (destructs bare t n) (destructs f t n) (destructs_same t n) s

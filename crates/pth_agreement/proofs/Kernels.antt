@@ -11,7 +11,7 @@ use Rattle.pth_kernel.specs.Entries.{bytes_brought, room_brought, connection_bro
 use Rattle.pth_kernel.specs.Kernel.{Kernel, Descriptor, came_to, unread, room, connections, connected, is_fd_live, is_readable, is_writeable, is_exceptional, is_nonblocking, earliest, room_used, connection_accepted, with_descriptor, with_mode, fd_named}
 use Rattle.pth_kernel.specs.Modes.{sets_mode, mode_answer}
 use Rattle.pth_io.specs.Attempts.{read_answer, write_answer, accept_answer, connect_answer, select_answer, fits, written, taken_by, read_after, write_after, accept_after, is_any_ready, are_all_live, fails, sets_answer, is_past, not_yet}
-use Rattle.pth_io.specs.Attempts as Attempts
+use Rattle.pth_numbered.specs.Clauses as Clauses
 use Rattle.pth_base.specs.declared.errno.Errno.TheVariants.{EBADF}
 use Rattle.pth_ring.specs.declared.event.Event.{Event}
 use Rattle.pth_model.specs.Awaits.{awaits_in}
@@ -190,7 +190,7 @@ module _ (other : Others) (k : Kernel) (shows : ShowsSame other k) where
       let rs = those_left other (is_readable (its other k)) (is_readable k) readable_at (members r.0) h.0 in
       let ws = those_left other (is_writeable (its other k)) (is_writeable k) writeable_at (members w.0) h.1 in
       let xs = those_left other (is_exceptional (its other k)) (is_exceptional k) exceptional_at (members x.0) h.2 in
-      λ i. Attempts.◌when◌otherwise◌ (fails EBADF) (not (live i)) (Attempts.◌when◌otherwise◌ (Some (sets_answer k (rs i) (ws i) (xs i))) (any i) (Attempts.◌when◌otherwise◌ (Some (sets_answer k [] [] [])) (is_past k deadline) not_yet))
+      λ i. Clauses.◌when◌otherwise◌ (fails EBADF) (not (live i)) (Clauses.◌when◌otherwise◌ (Some (sets_answer k (rs i) (ws i) (xs i))) (any i) (Clauses.◌when◌otherwise◌ (Some (sets_answer k [] [] [])) (is_past k deadline) not_yet))
 
   -- what an attempt comes to
   pub trial_same : (a : Awaits) → AllLeft other (asked_by_wait a) → (trial_for (its other k) a).verdict ≡ (trial_for k a).verdict

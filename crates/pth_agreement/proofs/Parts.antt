@@ -13,7 +13,7 @@ use Rattle.pth_model.specs.declared.progress.Progress.{Progress}
 use Rattle.pth_model.specs.Calls.{begun}
 use Rattle.pth_model.specs.Changes.{sets, goes_on, enters, leaves_queue, raises_ready, trails, runs_now, moves_to, blocked_of, holders}
 use Rattle.pth_model.specs.Course.{Course, within}
-use Rattle.pth_model.specs.Part.{Part, Move, Take, Step, Close, Halt, next_part, part, part_by, chosen, readies, readies_all, readies_new, runs, dispatches, takes, takes_by, takes_next, owes_after, turn_after, settled, stepping, steps, steps_by, steps_on, is_put_back, is_put_waiting, placed_by, is_placed, time_passes, turn_ends, closes, moves, moves_by}
+use Rattle.pth_model.specs.Part.{Part, Move, Take, Step, Close, Halt, next_part, part, part_by, chosen, readies, readies_all, readies_new, runs, dispatches, takes, takes_by, takes_next, owes_after, turn_after, step_completed, stepping, steps, steps_by, steps_on, is_put_back, is_put_waiting, placed_by, is_placed, time_passes, turn_ends, closes, moves, moves_by}
 use Rattle.pth_model.specs.Pass.{pass, is_ready_at, moment}
 use Rattle.pth_model.specs.State.{Turn, queue}
 use Rattle.pth_model.specs.Transition.{Went, changes, controlled, tells, ◌and◌, ◌and_then◌, ◌and_finally◌}
@@ -81,8 +81,8 @@ module _ {P S H : Type 0} (p : P) (other : Others) where
   owed_same t (next.Yields a) k = refl
   owed_same t n k = refl
 
-  settled_same : (x : Turn) (t : ℕ) (w : Went (Unit {0}) S H) → settled x t (gone p other w) ≡ placed_course (settled x t w)
-  settled_same x t w = ap (λ k. record { state = record { resources = w.told.state.resources; control = k }; turn = turn_after t w.next x; marks = w.told.marks }) (owed_same t w.next w.told.state.control)
+  step_completed_same : (x : Turn) (t : ℕ) (w : Went (Unit {0}) S H) → step_completed x t (gone p other w) ≡ placed_course (step_completed x t w)
+  step_completed_same x t w = ap (λ k. record { state = record { resources = w.told.state.resources; control = k }; turn = turn_after t w.next x; marks = w.told.marks }) (owed_same t w.next w.told.state.control)
 
   stepping_same : (t : ℕ) (y : Stepped S H) → AreSame p other (stepping t y) (stepping t y)
   unfolding goes_on
@@ -125,7 +125,7 @@ module _ {P S H : Type 0} (p : P) (other : Others) where
     unfolding steps
     steps_same x t s left same call_left =
         let y = record x { steps = x.steps + 1 } in
-        ap (settled y t) (steps_by_same t (blocked_of s.control t) (s.control.threads.progress t) s left same call_left) ∙ settled_same y t (steps_on bare t s)
+        ap (step_completed y t) (steps_by_same t (blocked_of s.control t) (s.control.threads.progress t) s left same call_left) ∙ step_completed_same y t (steps_on bare t s)
 
     closes_same : (x : Turn) (t : ℕ) (s : Bare S H) → AsksLeft other (turn_ends t s.control) → closes f x t (placed p other s) ≡ placed_course (closes bare x t s)
     unfolding closes

@@ -52,7 +52,8 @@ use Rattle.pth_model.specs.State.{State}
 use Rattle.pth_model.specs.ThreadControl.{thread, joinable_dead, to_join, takes_joined, suspends, resumes, returns_to}
 use Rattle.pth_model.specs.ThreadEnds.{is_alone}
 use Rattle.pth_model.specs.Transition.{Change, silent, nothing, changes, tells, tid, ◌and◌, ◌and_then◌}
-use Rattle.pth_model.specs.Verdict.{refused, says, by_result, ◌when◌otherwise◌}
+use Rattle.pth_model.specs.Verdict.{refused, says, by_result}
+use Rattle.pth_numbered.specs.Clauses.{◌when◌otherwise◌}
 use Rattle.pth_agreement.proofs.Placed.{Bare, placed, placed_control, moved, AreSame, DoSame, AttemptSame, changes_same, then_same, where_same}
 use Rattle.pth_agreement.proofs.Kernels.{ShowsSame, changed_same, mode_sets, live_at, blocking_at, mode_at, live_same, sets_left, trial_same, after_same}
 use Rattle.pth_agreement.proofs.Endings.{stepping_so, handler_same, ending_same}
