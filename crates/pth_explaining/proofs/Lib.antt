@@ -1,0 +1,6 @@
+pub mod Parsed
+pub mod Objects
+pub mod Results
+pub mod Along
+pub mod OneOutput
+pub mod Running

@@ -1,0 +1,138 @@
+-- What a call waits for, and how that is said.
+use Rattle.std.specs.Prelude.{ℕ, zero, ℤ, pos, ◌==◌, ◌++◌, not, List, [], ◌∷◌, Option, Some, None, codes, flat_map}
+use Rattle.std.specs.List.{filter}
+use Rattle.pth_base.specs.declared.call.Call.{Call}
+use Rattle.pth_base.specs.declared.call.Call.TheVariants as call
+use Rattle.pth_base.specs.declared.mark.Mark.{Mark}
+use Rattle.pth_print.specs.WordTexts.{number_word, tid_word}
+use Rattle.pth_explaining.specs.Holders.{holders}
+use Rattle.pth_explaining.specs.declared.cause.Cause.{Cause}
+use Rattle.pth_explaining.specs.declared.cause.Cause.TheVariants as cause
+use Rattle.pth_explaining.specs.declared.holders.Hold.TheVariants as hold
+
+-- ---- causes
+
+-- main's `pth_exit` waits for the ends of all other threads, and `pth_join` of 0 for the end of any
+abbrev pub end_of : ℤ → Cause
+end_of (pos zero) = cause.AnyEnd
+end_of t = cause.End t
+
+-- what a call waits for, but for an extra ring
+abbrev pub cause_of : Call → Cause
+cause_of (call.Exit v) = cause.AllEnds
+cause_of (call.Join t) = end_of t
+cause_of (call.Nap n) = cause.Time
+cause_of (call.Usleep n) = cause.Time
+cause_of (call.Sleep n) = cause.Time
+cause_of (call.Wait e) = cause.Event e
+cause_of (call.Read f n) = cause.Descriptor f
+cause_of (call.ReadEv f n e) = cause.Descriptor f
+cause_of (call.Write f bytes) = cause.Descriptor f
+cause_of (call.WriteEv f bytes e) = cause.Descriptor f
+cause_of (call.Accept f) = cause.Descriptor f
+cause_of (call.AcceptEv f e) = cause.Descriptor f
+cause_of (call.Connect f) = cause.Descriptor f
+cause_of (call.ConnectEv f e) = cause.Descriptor f
+cause_of (call.Select r w x l) = cause.Descriptors
+cause_of (call.SelectEv r w x l e) = cause.Descriptors
+cause_of (call.MutexAcquire m v e) = cause.Mutex m
+cause_of (call.RwAcquire l write v e) = cause.Lock l
+cause_of (call.CondAwait c m e) = cause.Condition c
+cause_of (call.BarrierReach b) = cause.Barrier b
+cause_of c = cause.Unknown
+
+-- what a call waits for that takes a mutex back
+abbrev pub retaken_by : Call → Cause
+retaken_by (call.CondAwait c m e) = cause.Retaken m
+retaken_by c = cause.Unknown
+
+-- an operand names an extra ring, unless it is 0
+abbrev pub ring_named : ℤ → Option ℤ
+ring_named (pos zero) = None
+ring_named e = Some e
+
+-- the extra ring of a call, an event of which ends the wait too
+abbrev pub ring_of : Call → Option ℤ
+ring_of (call.ReadEv f n e) = ring_named e
+ring_of (call.WriteEv f bytes e) = ring_named e
+ring_of (call.AcceptEv f e) = ring_named e
+ring_of (call.ConnectEv f e) = ring_named e
+ring_of (call.SelectEv r w x l e) = ring_named e
+ring_of (call.MutexAcquire m v e) = ring_named e
+ring_of (call.RwAcquire l write v e) = ring_named e
+ring_of (call.CondAwait c m e) = ring_named e
+ring_of c = None
+
+-- ---- how they are said
+
+-- threads, each after a space
+abbrev pub threads_text : List ℕ → List ℕ
+threads_text ts = flat_map (λ t. codes " " ++ tid_word t) ts
+
+-- words, and threads behind them; nothing if there are none
+abbrev pub named_text : (words : List ℕ) → List ℕ → List ℕ
+named_text words [] = []
+named_text words (t ∷ ts) = words ++ threads_text (t ∷ ts)
+
+-- who holds what a thread waits for
+abbrev pub owners_text : List ℕ → List ℕ
+owners_text [] = codes ", which no thread holds"
+owners_text (t ∷ ts) = codes ", held by" ++ threads_text (t ∷ ts)
+
+abbrev pub lockers_text : (writers readers : List ℕ) → List ℕ
+lockers_text [] [] = codes ", which no thread holds"
+lockers_text ws rs = named_text (codes ", written by") ws ++ named_text (codes ", read by") rs
+
+-- the threads of these without t
+abbrev pub others : ℕ → List ℕ → List ℕ
+others t ts = filter (λ u. not (u == t)) ts
+
+-- what a cause is, behind `waits` or `retakes` and before its number
+abbrev pub words_of : Cause → List ℕ
+words_of (cause.Mutex m) = codes " for mutex "
+words_of (cause.Lock l) = codes " for rwlock "
+words_of (cause.Condition c) = codes " for condition "
+words_of (cause.Barrier b) = codes " for barrier "
+words_of (cause.Descriptor f) = codes " for descriptor "
+words_of cause.Descriptors = codes " for descriptors"
+words_of (cause.End t) = codes " for the end of t"
+words_of cause.AnyEnd = codes " for the end of any thread"
+words_of cause.AllEnds = codes " for the end of all other threads"
+words_of cause.Time = codes " for its time"
+words_of (cause.Event e) = codes " for an event of ring "
+words_of (cause.Retaken m) = codes " mutex "
+words_of cause.Unknown = []
+
+-- the number of a cause, if it has one
+abbrev pub number_in : Cause → Option ℤ
+number_in (cause.Mutex m) = Some m
+number_in (cause.Lock l) = Some l
+number_in (cause.Condition c) = Some c
+number_in (cause.Barrier b) = Some b
+number_in (cause.Descriptor f) = Some f
+number_in (cause.End t) = Some t
+number_in (cause.Event e) = Some e
+number_in (cause.Retaken m) = Some m
+number_in c = None
+
+abbrev pub number_text : Option ℤ → List ℕ
+number_text None = []
+number_text (Some n) = number_word n
+
+-- whom t waits for, after these marks and with these threads alive
+abbrev pub whom_text : List Mark → List ℕ → ℕ → Cause → List ℕ
+whom_text marks alive t (cause.Mutex m) = owners_text (holders marks alive (hold.Owns m))
+whom_text marks alive t (cause.Retaken m) = owners_text (holders marks alive (hold.Owns m))
+whom_text marks alive t (cause.Lock l) =
+    lockers_text (holders marks alive (hold.Writes l)) (holders marks alive (hold.Reads l))
+whom_text marks alive t cause.AllEnds = named_text (codes ":") (others t alive)
+whom_text marks alive t c = []
+
+-- what t waits for
+abbrev pub cause_text : List Mark → List ℕ → ℕ → Cause → List ℕ
+cause_text marks alive t c = words_of c ++ number_text (number_in c) ++ whom_text marks alive t c
+
+-- an extra ring
+abbrev pub ring_text : Option ℤ → List ℕ
+ring_text None = []
+ring_text (Some e) = codes " or an event of ring " ++ number_word e

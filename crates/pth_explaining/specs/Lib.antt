@@ -1,0 +1,11 @@
+pub mod Pieces
+pub mod Clocks
+pub mod Threads
+pub mod Holders
+pub mod Causes
+pub mod Waits
+pub mod Refusals
+pub mod Explanation
+pub mod Taken
+pub mod Words
+pub mod Why
