@@ -1,14 +1,9 @@
--- What a call waits for, and how that is said.
-use Rattle.std.specs.Prelude.{ℕ, zero, ℤ, pos, ◌==◌, ◌++◌, not, List, [], ◌∷◌, Option, Some, None, codes, flat_map}
-use Rattle.std.specs.List.{filter}
+-- What a call waits for.
+use Rattle.std.specs.Prelude.{ℕ, zero, ℤ, pos, List, [], Option, Some, None, codes}
 use Rattle.pth_base.specs.declared.call.Call.{Call}
 use Rattle.pth_base.specs.declared.call.Call.TheVariants as call
-use Rattle.pth_base.specs.declared.mark.Mark.{Mark}
-use Rattle.pth_print.specs.WordTexts.{number_word, tid_word}
-use Rattle.pth_explaining.specs.Holders.{holders}
 use Rattle.pth_explaining.specs.declared.cause.Cause.{Cause}
 use Rattle.pth_explaining.specs.declared.cause.Cause.TheVariants as cause
-use Rattle.pth_explaining.specs.declared.holders.Hold.TheVariants as hold
 
 -- ---- causes
 
@@ -65,28 +60,6 @@ ring_of c = None
 
 -- ---- how they are said
 
--- threads, each after a space
-abbrev pub threads_text : List ℕ → List ℕ
-threads_text ts = flat_map (λ t. codes " " ++ tid_word t) ts
-
--- words, and threads behind them; nothing if there are none
-abbrev pub named_text : (words : List ℕ) → List ℕ → List ℕ
-named_text words [] = []
-named_text words (t ∷ ts) = words ++ threads_text (t ∷ ts)
-
--- who holds what a thread waits for
-abbrev pub owners_text : List ℕ → List ℕ
-owners_text [] = codes ", which no thread holds"
-owners_text (t ∷ ts) = codes ", held by" ++ threads_text (t ∷ ts)
-
-abbrev pub lockers_text : (writers readers : List ℕ) → List ℕ
-lockers_text [] [] = codes ", which no thread holds"
-lockers_text ws rs = named_text (codes ", written by") ws ++ named_text (codes ", read by") rs
-
--- the threads of these without t
-abbrev pub others : ℕ → List ℕ → List ℕ
-others t ts = filter (λ u. not (u == t)) ts
-
 -- what a cause is, behind `waits` or `retakes` and before its number
 abbrev pub words_of : Cause → List ℕ
 words_of (cause.Mutex m) = codes " for mutex "
@@ -98,7 +71,7 @@ words_of cause.Descriptors = codes " for descriptors"
 words_of (cause.End t) = codes " for the end of t"
 words_of cause.AnyEnd = codes " for the end of any thread"
 words_of cause.AllEnds = codes " for the end of all other threads"
-words_of cause.Time = codes " for its time"
+words_of cause.Time = codes " for its deadline"
 words_of (cause.Event e) = codes " for an event of ring "
 words_of (cause.Retaken m) = codes " mutex "
 words_of cause.Unknown = []
@@ -114,25 +87,3 @@ number_in (cause.End t) = Some t
 number_in (cause.Event e) = Some e
 number_in (cause.Retaken m) = Some m
 number_in c = None
-
-abbrev pub number_text : Option ℤ → List ℕ
-number_text None = []
-number_text (Some n) = number_word n
-
--- whom t waits for, after these marks and with these threads alive
-abbrev pub whom_text : List Mark → List ℕ → ℕ → Cause → List ℕ
-whom_text marks alive t (cause.Mutex m) = owners_text (holders marks alive (hold.Owns m))
-whom_text marks alive t (cause.Retaken m) = owners_text (holders marks alive (hold.Owns m))
-whom_text marks alive t (cause.Lock l) =
-    lockers_text (holders marks alive (hold.Writes l)) (holders marks alive (hold.Reads l))
-whom_text marks alive t cause.AllEnds = named_text (codes ":") (others t alive)
-whom_text marks alive t c = []
-
--- what t waits for
-abbrev pub cause_text : List Mark → List ℕ → ℕ → Cause → List ℕ
-cause_text marks alive t c = words_of c ++ number_text (number_in c) ++ whom_text marks alive t c
-
--- an extra ring
-abbrev pub ring_text : Option ℤ → List ℕ
-ring_text None = []
-ring_text (Some e) = codes " or an event of ring " ++ number_word e

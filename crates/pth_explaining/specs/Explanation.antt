@@ -24,7 +24,8 @@ head_line e c =
 
 -- a line for each thread that waits
 abbrev pub wait_lines : List Mark → Places → List ℕ
-wait_lines marks places = flat_map (wait_line marks (living_in marks places)) (waits_in marks places)
+wait_lines marks places =
+    flat_map (wait_line marks (living_in marks places) (waits_in marks places)) (waits_in marks places)
 
 -- the head, the threads that wait, and the refused calls
 unfoldable pub explanation : List Mark → Ending → List ℕ

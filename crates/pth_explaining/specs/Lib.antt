@@ -3,6 +3,7 @@ pub mod Clocks
 pub mod Threads
 pub mod Holders
 pub mod Causes
+pub mod Whom
 pub mod Waits
 pub mod Refusals
 pub mod Explanation

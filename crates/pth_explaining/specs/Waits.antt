@@ -5,11 +5,12 @@ use Rattle.pth_base.specs.declared.mark.Mark.{Mark}
 use Rattle.pth_base.specs.declared.mark.Mark.TheVariants as mark
 use Rattle.pth_print.specs.MarkLines.{mark_words}
 use Rattle.pth_print.specs.SpacedWords.{joined_words}
-use Rattle.pth_explaining.specs.Causes.{cause_of, cause_text, retaken_by, ring_of, ring_text}
+use Rattle.pth_explaining.specs.Causes.{cause_of, retaken_by, ring_of}
 use Rattle.pth_explaining.specs.Threads.{Places}
 use Rattle.pth_explaining.specs.declared.clock.Clock.{Clock}
 use Rattle.pth_explaining.specs.declared.threads.Place.{Place}
 use Rattle.pth_explaining.specs.declared.waits.Wait.{Wait}
+use Rattle.pth_explaining.specs.Whom.{cause_text, ring_text}
 
 -- the wait that a mark tells of, which stands at a place
 abbrev pub wait_of : Place → Mark → Option Wait
@@ -35,7 +36,7 @@ abbrev pub since_text : Clock → List ℕ
 since_text c = codes " (since turn " ++ decimal c.turn ++ codes " at " ++ decimal c.at ++ codes ")\n"
 
 -- the line of a wait: that of its mark, and behind it what the thread waits for, and since when
-unfoldable pub wait_line : List Mark → List ℕ → Wait → List ℕ
-wait_line marks alive w =
-    mark_text (slice_get marks w.place.index) ++ cause_text marks alive w.thread w.cause ++ ring_text w.ring
-    ++ since_text w.place.clock
+unfoldable pub wait_line : List Mark → List ℕ → List Wait → Wait → List ℕ
+wait_line marks alive waits w =
+    mark_text (slice_get marks w.place.index) ++ cause_text marks alive waits w.thread w.cause
+    ++ ring_text w.ring ++ since_text w.place.clock

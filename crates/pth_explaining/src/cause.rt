@@ -1,18 +1,9 @@
-//! What a call waits for, and how that is said.
+//! What a call waits for.
 
-ghost use Rattle.std.specs.Prelude.{◌≡◌, ◌++◌, IfOk, OnOk, codes};
-ghost use Rattle.pth_explaining.specs.Causes.{cause_of, cause_text, end_of, lockers_text, named_text, number_in, number_text, others, owners_text};
-ghost use Rattle.pth_explaining.specs.Causes.{retaken_by, ring_named, ring_of, ring_text, threads_text, whom_text, words_of};
-ghost use Rattle.pth_explaining.specs.Holders.{holders};
+ghost use Rattle.std.specs.Prelude.{◌≡◌};
+ghost use Rattle.pth_explaining.specs.Causes.{cause_of, end_of, number_in, retaken_by, ring_named, ring_of, words_of};
 
-use crate::holders::{Hold, holders};
-use crate::piece::Piece::{Natural, Number, Plain};
-use crate::piece::add_pieces;
 use pth_base::call::Call;
-use pth_base::mark::Mark;
-use pth_base::memory::OutOfMemory;
-use pth_text::text::Text;
-use std::alloc::Global;
 
 /// What a thread waits for.
 #[derive(Clone, Copy)]
@@ -114,122 +105,8 @@ pub(crate) fn ring_of(call: &Call) -> Option<i64>
     }
 }
 
-// ---- texts
-
-// Adds threads, each after a space.
-fn add_threads(threads: &[u64], out: &mut Text) -> Result<(), OutOfMemory>
-    ensures { OnOk result (out.new ≡ out.old ++ threads_text threads.now) }
-{
-    for t in threads {
-        add_pieces(&[Plain(b" t"), Natural(*t)], out)?;
-    }
-    Ok(())
-}
-
-// Adds words, and threads behind them, if there are any.
-fn add_named(words: &[u8], threads: &[u64], out: &mut Text) -> Result<(), OutOfMemory>
-    ensures { OnOk result (out.new ≡ out.old ++ named_text words.now threads.now) }
-{
-    if threads.is_empty() {
-        return Ok(());
-    }
-    out.push(words)?;
-    add_threads(threads, out)
-}
-
-// Adds who has a mutex.
-fn add_owners(owners: &[u64], out: &mut Text) -> Result<(), OutOfMemory>
-    ensures { OnOk result (out.new ≡ out.old ++ owners_text owners.now) }
-{
-    if owners.is_empty() {
-        return out.push(b", which no thread holds");
-    }
-    add_named(b", held by", owners, out)
-}
-
-// Adds who writes and who reads under a lock.
-fn add_lockers(writers: &[u64], readers: &[u64], out: &mut Text) -> Result<(), OutOfMemory>
-    ensures { OnOk result (out.new ≡ out.old ++ lockers_text writers.now readers.now) }
-{
-    if writers.is_empty() && readers.is_empty() {
-        return out.push(b", which no thread holds");
-    }
-    add_named(b", written by", writers, out)?;
-    add_named(b", read by", readers, out)
-}
-
-// The threads without one.
-fn others(alloc: Global, t: u64, threads: &[u64]) -> Result<Vec<u64>, OutOfMemory>
-    ensures { IfOk result (λ found. found.items ≡ others t threads.now) }
-{
-    let mut found = Vec::new(alloc);
-    for u in threads {
-        if *u != t {
-            found.push(*u)?;
-        }
-    }
-    Ok(found)
-}
-
-// Adds who has a mutex.
-fn add_owners_of(
-    alloc: Global,
-    marks: &[Mark],
-    alive: &[u64],
-    m: i64,
-    out: &mut Text,
-) -> Result<(), OutOfMemory>
-    ensures { OnOk result (out.new ≡ out.old ++ owners_text (holders marks.now alive.now (Hold.Owns m))) }
-{
-    let owners = holders(alloc, marks, alive, Hold::Owns(m))?;
-    add_owners(owners.as_slice(), out)
-}
-
-// Adds who holds a lock.
-fn add_lockers_of(
-    alloc: Global,
-    marks: &[Mark],
-    alive: &[u64],
-    l: i64,
-    out: &mut Text,
-) -> Result<(), OutOfMemory>
-    ensures { OnOk result (out.new ≡ out.old ++ lockers_text (holders marks.now alive.now (Hold.Writes l))
-        (holders marks.now alive.now (Hold.Reads l))) }
-{
-    let writers = holders(alloc, marks, alive, Hold::Writes(l))?;
-    let readers = holders(alloc, marks, alive, Hold::Reads(l))?;
-    add_lockers(writers.as_slice(), readers.as_slice(), out)
-}
-
-// Adds the other threads.
-fn add_others(alloc: Global, alive: &[u64], t: u64, out: &mut Text) -> Result<(), OutOfMemory>
-    ensures { OnOk result (out.new ≡ out.old ++ named_text (codes ":") (others t alive.now)) }
-{
-    let others = others(alloc, t, alive)?;
-    add_named(b":", others.as_slice(), out)
-}
-
-// Adds whom a thread waits for.
-fn add_whom(
-    alloc: Global,
-    marks: &[Mark],
-    alive: &[u64],
-    t: u64,
-    cause: Cause,
-    out: &mut Text,
-) -> Result<(), OutOfMemory>
-    ensures { OnOk result (out.new ≡ out.old ++ whom_text marks.now alive.now t cause) }
-{
-    match cause {
-        Cause::Mutex(m) | Cause::Retaken(m) => add_owners_of(alloc, marks, alive, m, out),
-        Cause::Lock(l) => add_lockers_of(alloc, marks, alive, l, out),
-        Cause::AllEnds => add_others(alloc, alive, t, out),
-        _ => Ok(()),
-    }
-}
-
-// What a cause is, behind `waits` or `retakes` and before its number.
-fn words_of(cause: Cause) -> &'static [u8]
+/// What a cause is, behind `waits` or `retakes` and before its number.
+pub(crate) fn words_of(cause: Cause) -> &'static [u8]
     ensures { result.now ≡ words_of cause }
 {
     match cause {
@@ -242,15 +119,15 @@ fn words_of(cause: Cause) -> &'static [u8]
         Cause::End(_) => b" for the end of t",
         Cause::AnyEnd => b" for the end of any thread",
         Cause::AllEnds => b" for the end of all other threads",
-        Cause::Time => b" for its time",
+        Cause::Time => b" for its deadline",
         Cause::Event(_) => b" for an event of ring ",
         Cause::Retaken(_) => b" mutex ",
         Cause::Unknown => b"",
     }
 }
 
-// The number of a cause, if it has one.
-fn number_in(cause: Cause) -> Option<i64>
+/// The number of a cause, if it has one.
+pub(crate) fn number_in(cause: Cause) -> Option<i64>
     ensures { result ≡ number_in cause }
 {
     match cause {
@@ -263,41 +140,5 @@ fn number_in(cause: Cause) -> Option<i64>
         | Cause::Event(n)
         | Cause::Retaken(n) => Some(n),
         _ => None,
-    }
-}
-
-// Adds the number of a cause.
-fn add_number(number: Option<i64>, out: &mut Text) -> Result<(), OutOfMemory>
-    ensures { OnOk result (out.new ≡ out.old ++ number_text number) }
-{
-    match number {
-        Some(n) => out.number(n),
-        None => Ok(()),
-    }
-}
-
-/// Adds what a thread waits for.
-pub(crate) fn add_cause(
-    alloc: Global,
-    marks: &[Mark],
-    alive: &[u64],
-    t: u64,
-    cause: Cause,
-    out: &mut Text,
-) -> Result<(), OutOfMemory>
-    ensures { OnOk result (out.new ≡ out.old ++ cause_text marks.now alive.now t cause) }
-{
-    out.push(words_of(cause))?;
-    add_number(number_in(cause), out)?;
-    add_whom(alloc, marks, alive, t, cause, out)
-}
-
-/// Adds an extra ring.
-pub(crate) fn add_ring(ring: Option<i64>, out: &mut Text) -> Result<(), OutOfMemory>
-    ensures { OnOk result (out.new ≡ out.old ++ ring_text ring) }
-{
-    match ring {
-        Some(e) => add_pieces(&[Plain(b" or an event of ring "), Number(e)], out),
-        None => Ok(()),
     }
 }

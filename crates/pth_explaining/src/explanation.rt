@@ -54,10 +54,10 @@ fn add_each(
     waits: &[Wait],
     out: &mut Text,
 ) -> Result<(), OutOfMemory>
-    ensures { OnOk result (out.new ≡ out.old ++ flat_map (wait_line marks.now alive.now) waits.now) }
+    ensures { OnOk result (out.new ≡ out.old ++ flat_map (wait_line marks.now alive.now waits.now) waits.now) }
 {
     for wait in waits {
-        add_wait(alloc, marks, alive, wait, out)?;
+        add_wait(alloc, marks, alive, waits, wait, out)?;
     }
     Ok(())
 }

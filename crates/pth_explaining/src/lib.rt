@@ -18,6 +18,7 @@ mod run;
 mod threads;
 mod top;
 mod waits;
+mod whom;
 mod words;
 
 pub use help::HELP;

@@ -6,11 +6,12 @@ ghost use Rattle.pth_print.specs.MarkLines.{mark_words};
 ghost use Rattle.pth_print.specs.SpacedWords.{joined_words};
 ghost use Rattle.pth_explaining.specs.Waits.{mark_text, since_text, wait_at, wait_line, wait_of, waits_in};
 
-use crate::cause::{Cause, add_cause, add_ring, cause_of, retaken_by, ring_of};
+use crate::cause::{Cause, cause_of, retaken_by, ring_of};
 use crate::clock::Clock;
 use crate::piece::Piece::{Natural, Plain};
 use crate::piece::add_pieces;
 use crate::threads::{Place, Places};
+use crate::whom::{add_cause, add_ring};
 use pth_base::mark::Mark;
 use pth_base::memory::OutOfMemory;
 use pth_print::mark_line::mark_line;
@@ -123,19 +124,20 @@ fn add_since(clock: Clock, out: &mut Text) -> Result<(), OutOfMemory>
     )
 }
 
-/// Adds the line of a wait, with these threads alive.
+/// Adds the line of a wait, with these threads alive, and of these waits.
 #[tactic(auto, unfolding(crate::specs::Waits::wait_line))]
 pub(crate) fn add_wait(
     alloc: Global,
     marks: &[Mark],
     alive: &[u64],
+    waits: &[Wait],
     wait: &Wait,
     out: &mut Text,
 ) -> Result<(), OutOfMemory>
-    ensures { OnOk result (out.new ≡ out.old ++ wait_line marks.now alive.now wait.now) }
+    ensures { OnOk result (out.new ≡ out.old ++ wait_line marks.now alive.now waits.now wait.now) }
 {
     add_mark_at(alloc, marks, wait.place.index, out)?;
-    add_cause(alloc, marks, alive, wait.thread, wait.cause, out)?;
+    add_cause(alloc, marks, alive, waits, wait, out)?;
     add_ring(wait.ring, out)?;
     add_since(wait.place.clock, out)
 }
