@@ -1,3 +1,4 @@
+pub mod Lockers
 pub mod Parsed
 pub mod Objects
 pub mod Results

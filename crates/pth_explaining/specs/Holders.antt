@@ -13,5 +13,5 @@ holds marks (hold.Writes l) t = writes t l marks
 holds marks (hold.Reads l) t = reads t l marks
 
 -- the threads of these that hold it
-abbrev pub holders : List Mark → List ℕ → Hold → List ℕ
+unfoldable pub holders : List Mark → List ℕ → Hold → List ℕ
 holders marks threads h = filter (holds marks h) threads

@@ -15,7 +15,7 @@ is_refused (mark.Acted t x (Fail e)) = true
 is_refused m = false
 
 -- the refused calls of further marks, the first of which stands at line n
-unfoldable pub refusals_from : ℕ → List Mark → List Refusal
+abbrev pub refusals_from : ℕ → List Mark → List Refusal
 refusals_from n [] = []
 refusals_from n (m ∷ ms) =
     if is_refused m
@@ -40,7 +40,7 @@ refusal_line times r =
     ++ decimal r.line ++ codes ": " ++ r.text
 
 -- a line for each kind of refusal, where the first of its kind stands
-unfoldable pub refusal_lines : (before : List Refusal) → List Refusal → List ℕ
+abbrev pub refusal_lines : (before : List Refusal) → List Refusal → List ℕ
 refusal_lines before [] = []
 refusal_lines before (r ∷ rs) =
     (if list_any (is_like r) before then [] else refusal_line (count_by (is_like r) (r ∷ rs)) r)

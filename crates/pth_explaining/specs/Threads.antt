@@ -33,7 +33,7 @@ abbrev pub places_after : Place → Mark → Places → Places
 places_after x m places = with_place x (thread_of m) (with_place x (spawned_by m) places)
 
 -- the places after further marks, the first of which has this index
-unfoldable pub places_from : ℕ → Clock → Places → List Mark → Places
+abbrev pub places_from : ℕ → Clock → Places → List Mark → Places
 places_from i clock places [] = places
 places_from i clock places (m ∷ ms) =
     places_from (i + 1) (clock_after clock m) (places_after (record { index = i; clock = clock_after clock m }) m places) ms

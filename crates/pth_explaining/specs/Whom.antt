@@ -28,9 +28,13 @@ owners_text [] = codes ", which no thread holds"
 owners_text (t ∷ ts) = codes ", held by" ++ threads_text (t ∷ ts)
 
 -- who holds a lock
-abbrev pub lockers_text : (writers readers : List ℕ) → List ℕ
-lockers_text [] [] = codes ", which no thread holds"
-lockers_text ws rs = named_text (codes ", written by") ws ++ named_text (codes ", read by") rs
+abbrev pub readers_text : List ℕ → List ℕ
+readers_text [] = codes ", which no thread holds"
+readers_text (t ∷ ts) = codes ", read by" ++ threads_text (t ∷ ts)
+
+unfoldable pub lockers_text : (writers readers : List ℕ) → List ℕ
+lockers_text [] rs = readers_text rs
+lockers_text (t ∷ ts) rs = codes ", written by" ++ threads_text (t ∷ ts) ++ named_text (codes ", read by") rs
 
 -- the threads of these without t
 abbrev pub others : ℕ → List ℕ → List ℕ

@@ -28,6 +28,7 @@ fn holds(marks: &[Mark], hold: Hold, t: u64) -> bool
 }
 
 /// The threads of these that have it.
+#[tactic(auto, unfolding(crate::specs::Holders::holders))]
 pub(crate) fn holders(
     alloc: Global,
     marks: &[Mark],

@@ -116,14 +116,10 @@ fn add_refusal(times: u64, r: &Refusal, out: &mut Text) -> Result<(), OutOfMemor
     add_pieces(&[Plain(b"refused "), Natural(times)], out)?;
     add_times(times, out)?;
     add_pieces(
-        &[
-            Plain(b", first at line "),
-            Natural(r.line),
-            Plain(b": "),
-            Plain(r.text.as_slice()),
-        ],
+        &[Plain(b", first at line "), Natural(r.line), Plain(b": ")],
         out,
-    )
+    )?;
+    out.push(r.text.as_slice())
 }
 
 // Adds the line of a refusal, if none of those before it is like it.

@@ -2,7 +2,7 @@
 
 ghost use Rattle.std.specs.Prelude.{◌≡◌, ◌++◌, IfOk, OnOk, codes};
 ghost use Rattle.pth_explaining.specs.Holders.{holders};
-ghost use Rattle.pth_explaining.specs.Whom.{are_beside, cause_text, lockers_text, named_text, number_text, others, owners_text};
+ghost use Rattle.pth_explaining.specs.Whom.{are_beside, cause_text, lockers_text, named_text, number_text, others, owners_text, readers_text};
 ghost use Rattle.pth_explaining.specs.Whom.{ring_text, threads_text, waiters, whom_text};
 
 use crate::cause::{Cause, number_in, words_of};
@@ -46,12 +46,22 @@ fn add_owners(owners: &[u64], out: &mut Text) -> Result<(), OutOfMemory>
     add_named(b", held by", owners, out)
 }
 
+// Adds who reads under a lock that nobody writes.
+fn add_readers(readers: &[u64], out: &mut Text) -> Result<(), OutOfMemory>
+    ensures { OnOk result (out.new ≡ out.old ++ readers_text readers.now) }
+{
+    if readers.is_empty() {
+        return out.push(b", which no thread holds");
+    }
+    add_named(b", read by", readers, out)
+}
+
 // Adds who writes and who reads under a lock.
 fn add_lockers(writers: &[u64], readers: &[u64], out: &mut Text) -> Result<(), OutOfMemory>
     ensures { OnOk result (out.new ≡ out.old ++ lockers_text writers.now readers.now) }
 {
-    if writers.is_empty() && readers.is_empty() {
-        return out.push(b", which no thread holds");
+    if writers.is_empty() {
+        return add_readers(readers, out);
     }
     add_named(b", written by", writers, out)?;
     add_named(b", read by", readers, out)
@@ -158,11 +168,13 @@ fn add_whom(
 ) -> Result<(), OutOfMemory>
     ensures { OnOk result (out.new ≡ out.old ++ whom_text marks.now alive.now waits.now wait.now.thread wait.now.cause) }
 {
-    match wait.cause {
-        Cause::Mutex(m) | Cause::Retaken(m) => add_owners_of(alloc, marks, alive, m, out),
+    let cause = wait.cause;
+    match cause {
+        Cause::Mutex(m) => add_owners_of(alloc, marks, alive, m, out),
+        Cause::Retaken(m) => add_owners_of(alloc, marks, alive, m, out),
         Cause::Lock(l) => add_lockers_of(alloc, marks, alive, l, out),
-        Cause::Condition(_) => add_waiters(alloc, waits, wait.thread, wait.cause, out),
-        Cause::Barrier(_) => add_waiters(alloc, waits, wait.thread, wait.cause, out),
+        Cause::Condition(_) => add_waiters(alloc, waits, wait.thread, cause, out),
+        Cause::Barrier(_) => add_waiters(alloc, waits, wait.thread, cause, out),
         Cause::AllEnds => add_others(alloc, alive, wait.thread, out),
         _ => Ok(()),
     }
