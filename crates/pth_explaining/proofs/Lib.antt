@@ -1,4 +1,6 @@
 pub mod Lockers
+pub mod Ways
+pub mod Listed
 pub mod Parsed
 pub mod Objects
 pub mod Results

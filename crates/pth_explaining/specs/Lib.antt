@@ -5,6 +5,8 @@ pub mod Holders
 pub mod Causes
 pub mod Whom
 pub mod Waits
+pub mod Told
+pub mod Circles
 pub mod Refusals
 pub mod Explanation
 pub mod Taken

@@ -12,19 +12,19 @@ use Rattle.pth_explaining.specs.declared.threads.Place.{Place}
 use Rattle.pth_explaining.specs.declared.waits.Wait.{Wait}
 use Rattle.pth_explaining.specs.Whom.{cause_text, ring_text}
 
--- the wait that a mark tells of, which stands at a place
-abbrev pub wait_of : Place → Mark → Option Wait
-wait_of x (mark.Waits t c) = Some (record { thread = t.0; place = x; cause = cause_of c; ring = ring_of c })
-wait_of x (mark.Retakes t c) = Some (record { thread = t.0; place = x; cause = retaken_by c; ring = None })
-wait_of x m = None
+-- the wait of t that a mark tells of, which stands at a place
+abbrev pub wait_of : ℕ → Place → Mark → Option Wait
+wait_of t x (mark.Waits u c) = Some (record { thread = t; place = x; cause = cause_of c; ring = ring_of c })
+wait_of t x (mark.Retakes u c) = Some (record { thread = t; place = x; cause = retaken_by c; ring = None })
+wait_of t x m = None
 
-abbrev pub wait_at : Place → Option Mark → Option Wait
-wait_at x None = None
-wait_at x (Some m) = wait_of x m
+abbrev pub wait_at : ℕ → Place → Option Mark → Option Wait
+wait_at t x None = None
+wait_at t x (Some m) = wait_of t x m
 
 -- the threads that wait, by rising number: the last mark about each of them says that it waits
 abbrev pub waits_in : List Mark → Places → List Wait
-waits_in marks places = filter_map (λ e. wait_at e.1 (slice_get marks e.1.index)) places
+waits_in marks places = filter_map (λ e. wait_at e.0 e.1 (slice_get marks e.1.index)) places
 
 -- the line of a mark, without its LF
 abbrev pub mark_text : Option Mark → List ℕ

@@ -1,10 +1,11 @@
 //! The explanation of how a run ends.
 
 ghost use Rattle.std.specs.Prelude.{◌≡◌, ◌++◌, OnOk, flat_map};
-ghost use Rattle.pth_explaining.specs.Explanation.{ending_text, explanation, head_line, wait_lines};
+ghost use Rattle.pth_explaining.specs.Explanation.{ending_text, explanation, head_line, lines_with, wait_lines};
 ghost use Rattle.pth_explaining.specs.Threads.{places_of};
 ghost use Rattle.pth_explaining.specs.Waits.{wait_line};
 
+use crate::circles::{add_circles, blocks};
 use crate::clock::{Clock, clock_of};
 use crate::piece::Piece::{Natural, Number, Plain};
 use crate::piece::add_pieces;
@@ -62,7 +63,22 @@ fn add_each(
     Ok(())
 }
 
-// Adds a line for each thread that waits.
+// Adds a line for each of these waits, and one for each circle.
+fn add_lines(
+    alloc: Global,
+    marks: &[Mark],
+    alive: &[u64],
+    waits: &[Wait],
+    out: &mut Text,
+) -> Result<(), OutOfMemory>
+    ensures { OnOk result (out.new ≡ out.old ++ lines_with marks.now alive.now waits.now) }
+{
+    let blocks = blocks(alloc, marks, alive, waits)?;
+    add_each(alloc, marks, alive, waits, out)?;
+    add_circles(alloc, blocks.as_slice(), out)
+}
+
+// Adds a line for each thread that waits, and one for each circle.
 fn add_waits(
     alloc: Global,
     marks: &[Mark],
@@ -73,7 +89,7 @@ fn add_waits(
 {
     let alive = living(alloc, marks, places)?;
     let waits = waits(alloc, marks, places)?;
-    add_each(alloc, marks, alive.as_slice(), waits.as_slice(), out)
+    add_lines(alloc, marks, alive.as_slice(), waits.as_slice(), out)
 }
 
 /// Adds the explanation of a run by its marks and its ending.

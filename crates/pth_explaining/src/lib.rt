@@ -7,11 +7,13 @@
 #![tactic(auto)]
 
 mod cause;
+mod circles;
 mod clock;
 pub mod explanation;
 mod help;
 mod holders;
 mod holding;
+pub mod laws;
 pub mod piece;
 mod refusals;
 mod run;

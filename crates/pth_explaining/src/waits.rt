@@ -27,19 +27,19 @@ pub(crate) struct Wait {
     pub(crate) ring: Option<i64>,
 }
 
-// The wait that a mark tells of.
-fn wait_of(place: Place, mark: &Mark) -> Option<Wait>
-    ensures { result ≡ wait_of place mark.now }
+// The wait of a thread that a mark tells of.
+fn wait_of(thread: u64, place: Place, mark: &Mark) -> Option<Wait>
+    ensures { result ≡ wait_of thread place mark.now }
 {
     match mark {
-        Mark::Waits { tid, call } => Some(Wait {
-            thread: u64::from(tid.0),
+        Mark::Waits { call, .. } => Some(Wait {
+            thread,
             place,
             cause: cause_of(call),
             ring: ring_of(call),
         }),
-        Mark::Retakes { tid, call } => Some(Wait {
-            thread: u64::from(tid.0),
+        Mark::Retakes { call, .. } => Some(Wait {
+            thread,
             place,
             cause: retaken_by(call),
             ring: None,
@@ -48,11 +48,11 @@ fn wait_of(place: Place, mark: &Mark) -> Option<Wait>
     }
 }
 
-fn wait_at(place: Place, marks: &[Mark]) -> Option<Wait>
-    ensures { result ≡ wait_at place (slice_get marks.now place.index) }
+fn wait_at(thread: u64, place: Place, marks: &[Mark]) -> Option<Wait>
+    ensures { result ≡ wait_at thread place (slice_get marks.now place.index) }
 {
     match marks.get(place.index) {
-        Some(mark) => wait_of(place, mark),
+        Some(mark) => wait_of(thread, place, mark),
         None => None,
     }
 }
@@ -76,8 +76,8 @@ pub(crate) fn waits(
     ensures { IfOk result (λ waits. waits.items ≡ waits_in marks.now places.now.entries) }
 {
     let mut waits = Vec::new(alloc);
-    for (_, place) in places {
-        push_wait(&mut waits, wait_at(*place, marks))?;
+    for (t, place) in places {
+        push_wait(&mut waits, wait_at(*t, *place, marks))?;
     }
     Ok(waits)
 }

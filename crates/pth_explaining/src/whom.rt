@@ -15,8 +15,8 @@ use pth_base::memory::OutOfMemory;
 use pth_text::text::Text;
 use std::alloc::Global;
 
-// Adds threads, each after a space.
-fn add_threads(threads: &[u64], out: &mut Text) -> Result<(), OutOfMemory>
+/// Adds threads, each after a space.
+pub(crate) fn add_threads(threads: &[u64], out: &mut Text) -> Result<(), OutOfMemory>
     ensures { OnOk result (out.new ≡ out.old ++ threads_text threads.now) }
 {
     for t in threads {
