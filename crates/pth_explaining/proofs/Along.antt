@@ -17,7 +17,16 @@ use Rattle.pth_transcript.specs.declared.reader.Part.{Part}
 use Rattle.pth_transcript.specs.declared.reader.Part.TheVariants as part
 use Rattle.pth_transcript.specs.declared.told.Told.{Told}
 use Rattle.pth_explaining.specs.Why.{IsMade, StopsAt}
-use Rattle.pth_explaining.specs.Taken.{HasTaken, IsAlong}
+use Rattle.pth_explaining.specs.Taken.{HasTaken}
+
+-- the marks of lines that were taken are kept
+pub record IsAlong (marks : List Mark) (old new : Ahead) (lines : ℕ) : Type 0 where
+  pub told : List Told
+  pub takes : Takes old new (told_lines told)
+  pub tells : All IsTold told
+  pub kept : marks ≡ marks_of told
+  pub count : lines ≡ length told
+  pub few : lines < 2 ^ 64
 
 -- nothing was taken yet
 pub begins : (marks : List MarkOf) (left : Option (List ℕ)) (unread : List ℕ) (lines : ℕ) → unread ≡ [] → lines ≡ 0

@@ -1,6 +1,7 @@
 pub mod Lockers
 pub mod Ways
 pub mod Listed
+pub mod Rounds
 pub mod Parsed
 pub mod Objects
 pub mod Results

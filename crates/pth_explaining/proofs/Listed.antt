@@ -1,5 +1,5 @@
 -- A thread is listed exactly if the last mark about it says that it waits.
-use Rattle.std.proofs.Common.{◌≡◌, ◌≢◌, ◌∙◌, ◌<◌, ◌≤◌, ◌+◌, ◌==◌, ◌&&◌, ◌||◌, ℕ, zero, suc, Bool, true, false, if◌then◌else◌, List, [], ◌∷◌, fold, Option, Some, None, slice_get, ap, ap₂, sym, refl, subst, arith}
+use Rattle.std.proofs.Common.{◌≡◌, ◌≢◌, ◌∙◌, ◌<◌, ◌≤◌, ◌+◌, ◌==◌, ◌&&◌, ◌||◌, ℕ, suc, Bool, true, false, if◌then◌else◌, List, [], ◌∷◌, fold, Option, Some, None, slice_get, ap, ap₂, sym, refl, subst, arith}
 use Rattle.std.specs.BTreeMap.{insert_entry}
 use Rattle.std.specs.List.{cons_option, list_any}
 use Rattle.std.specs.Ordering.{match_ordering, nat_cmp}
@@ -144,8 +144,8 @@ module _ (marks : List Mark) (t : ℕ) where
       let both = with_one says t x (thread_of m) (with_place x (spawned_by m) es) _ (with_rises x (spawned_by m) es r) first in
       let this : says x ≡ says_wait (Some m) = ap says_wait (ap (slice_get marks) (let e : i ≡ i + 0 = omega arith in e) ∙ there 0) in
       let all : under says t (places_after x m es) ≡ says_wait (about_after t last m) =
-          both ∙ choose (is_number t (thread_of m)) (is_number t (spawned_by m)) (says x) (says_wait last)
-          ∙ ap (λ b. if is_about t m then b else says_wait last) this ∙ says_if (is_about t m) m last in
+      both ∙ choose (is_number t (thread_of m)) (is_number t (spawned_by m)) (says x) (says_wait last)
+      ∙ ap (λ b. if is_about t m then b else says_wait last) this ∙ says_if (is_about t m) m last in
       told (i + 1) (clock_after clock m) (places_after x m es) (about_after t last m) ms
       (λ j. ap (slice_get marks) (let e : i + 1 + j ≡ i + suc j = omega arith in e) ∙ there (suc j))
       (with_rises x (thread_of m) (with_place x (spawned_by m) es) (with_rises x (spawned_by m) es r)) all

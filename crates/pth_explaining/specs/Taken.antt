@@ -8,16 +8,7 @@ use Rattle.pth_transcript.specs.Transcripts.{IsTold, IsToldEnding}
 use Rattle.pth_transcript.specs.declared.ending.Ending.{Ending}
 use Rattle.pth_transcript.specs.declared.told.Told.{Told}
 
--- the marks of lines that were taken are kept
-pub record IsAlong (marks : List Mark) (old new : Ahead) (lines : ℕ) : Type 0 where
-  pub told : List Told
-  pub takes : Takes old new (told_lines told)
-  pub tells : All IsTold told
-  pub kept : marks ≡ marks_of told
-  pub count : lines ≡ length told
-  pub few : lines < 2 ^ 64
-
--- and the line of an ending was taken behind them
+-- the marks of lines that were taken are kept, and the line of an ending was taken behind them
 pub record HasTaken (marks : List Mark) (ending : Ending) (old new : Ahead) (lines : ℕ) : Type 0 where
   pub told : List Told
   pub takes : Takes old new (told_lines told ++ ending_line ending)

@@ -1,9 +1,11 @@
--- What the last mark about a thread says.
-use Rattle.std.specs.Prelude.{ℕ, ◌==◌, ◌||◌, Bool, true, false, List, fold, if◌then◌else◌, Option, Some, None}
+-- What laws of explanations speak of: what the last mark about a thread says, and lists.
+use Rattle.std.specs.Prelude.{◌≡◌, ◌⊎◌, ◌<◌, ◌≤◌, ℕ, ◌==◌, ◌||◌, Bool, true, false, List, [], ◌∷◌, fold, get_or, length, if◌then◌else◌, Option, Some, None}
 use Rattle.pth_base.specs.declared.mark.Mark.{Mark}
 use Rattle.pth_base.specs.declared.mark.Mark.TheVariants as mark
 use Rattle.pth_laws.specs.Marks.{thread_of}
 use Rattle.pth_explaining.specs.Threads.{spawned_by}
+
+-- ---- the last mark about a thread
 
 abbrev pub is_number : ℕ → Option ℕ → Bool
 is_number t None = false
@@ -25,3 +27,14 @@ abbrev pub says_wait : Option Mark → Bool
 says_wait (Some (mark.Waits u c)) = true
 says_wait (Some (mark.Retakes u c)) = true
 says_wait m = false
+
+-- ---- lists
+
+-- x is one of them
+abbrev pub IsAmong : {A : Type 0} → A → List A → Type 0
+IsAmong x [] = ⊥
+IsAmong x (y ∷ ys) = (x ≡ y) ⊎ IsAmong x ys
+
+-- the first thread of these is the least
+abbrev pub BeginsWithLeast : List ℕ → Type 0
+BeginsWithLeast ts = (i : ℕ) → i < length ts → get_or ts 0 0 ≤ get_or ts i 0

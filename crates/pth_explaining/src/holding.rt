@@ -1,7 +1,7 @@
 //! What a thread has of a mutex or a lock, by the folds of the laws.
 
 ghost use Rattle.std.specs.Prelude.{◌≡◌, ◌<◌, ◌+◌, ◌≤◌, ◌^◌, false, fold};
-ghost use Rattle.pth_laws.specs.Exclusive.{awaits_after, awaits_no_more, begins_to_await, enters, gives, gives_up, held_after, is_of, leaves, levels, levels_after, takes};
+ghost use Rattle.pth_laws.specs.Exclusive.{awaits_after, awaits_no_more, begins_to_await, enters, gives, gives_up, held_after, is_of, leaves, levels, levels_after, takes_level};
 
 use pth_base::act::Act;
 use pth_base::answer::Answer;
@@ -59,8 +59,8 @@ fn awaits_after(t: u64, awaiting: bool, mark: &Mark) -> bool
 
 // ---- levels of a mutex
 
-fn takes(t: u64, i: i64, awaiting: bool, mark: &Mark) -> bool
-    ensures { result ≡ takes t i awaiting mark.now }
+fn takes_level(t: u64, i: i64, awaiting: bool, mark: &Mark) -> bool
+    ensures { result ≡ takes_level t i awaiting mark.now }
 {
     match mark {
         Mark::Answered {
@@ -117,7 +117,7 @@ fn levels_after(t: u64, i: i64, had: u64, awaiting: bool, mark: &Mark) -> u64
 {
     if gives_up(t, i, mark) {
         0
-    } else if takes(t, i, awaiting, mark) {
+    } else if takes_level(t, i, awaiting, mark) {
         had + 1
     } else if gives(t, i, awaiting, mark) {
         had.saturating_sub(1)

@@ -1,7 +1,7 @@
 use Rattle.std.proofs.Common.{◌≡◌, ◌-◌, ◌^◌, []}
 use Rattle.pth_filter.specs.Objects.{OtherStays, of_read}
 use Rattle.pth_transcript.specs.Taking.{IsStarted, ahead}
-use Rattle.pth_explaining.specs.Taken.{IsAlong}
+use Rattle.pth_explaining.proofs.Along.{IsAlong}
 use Rattle.pth_explaining.proofs.run.take_lines.Given as goal
 
 abbrev pub invariant-lines : goal.invariant-lines
