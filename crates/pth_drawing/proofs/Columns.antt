@@ -1,12 +1,12 @@
 -- A chart lies within its columns, and it has no more of them than were asked for.
-use Rattle.std.proofs.Common.{◌≡◌, ◌&&◌, ◌==◌, ◌+◌, ◌-◌, ◌≤◌, ◌<◌, ℕ, Bool, true, false, List, [], ◌∷◌, ◌++◌, All, Option, Some, None, IfSome, arith, refl, drop, if◌then◌else◌, length, slice_get, suc, length-append, length-take}
+use Rattle.std.proofs.Common.{◌≡◌, ◌&&◌, ◌==◌, ◌+◌, ◌-◌, ◌≤◌, ◌<◌, ℕ, Bool, true, false, List, [], ◌∷◌, ◌++◌, All, Option, Some, None, IfSome, arith, refl, drop, if◌then◌else◌, length, slice_get, suc, length-append, length-take, subst, sym, ◌^◌}
 use Rattle.std.proofs.lemmas.Bool.{eqb-true}
-use Rattle.std.proofs.lemmas.List.{length-map, length_push}
+use Rattle.std.proofs.lemmas.List.{length-drop, length-map, length_push}
 use Rattle.std.proofs.lemmas.List.Elements.{All-cons, All-get_or, All-map, All-nil, All-weaker}
 use Rattle.pth_base.specs.declared.mark.Mark.{Mark}
 use Rattle.pth_drawing.specs.Bounds.{IsLaneWithin, IsStretchWithin, IsWithinColumns, most_turns}
 use Rattle.pth_drawing.specs.Drawing.{chart, columns_of, ends_in, is_canceled_in, is_cut, is_same, lane_of, moment_at, moments_from, moved_in, places, places_from, row_of, stretches_from, whole_row, with_column, with_end}
-use Rattle.pth_drawing.specs.States.{Turn, shown_after, shown_in, turns_of}
+use Rattle.pth_drawing.specs.States.{Turn, dispatched, shown_after, shown_in, turn_begun, turns_after, turns_of}
 use Rattle.pth_drawing.specs.declared.chart.End.{End}
 use Rattle.pth_drawing.specs.declared.chart.Moment.{Moment}
 use Rattle.pth_drawing.specs.declared.chart.Shown.{Shown}
@@ -97,14 +97,38 @@ lane_lies cut marks columns t =
 pub few_columns : (from turns : ℕ) (marks : List Mark) → turns ≤ most_turns → length (columns_of from turns marks) ≤ most_turns
 few_columns from turns marks few = let short = length-take turns (drop (from - 1) (turns_of marks)) in omega arith
 
-pub chart_within : (from turns : ℕ) (end : End) (marks : List Mark) → turns ≤ most_turns → IsWithinColumns (chart from turns end marks)
+-- there are no more turns than marks
+turn_or_none : (before after : List Mark) (o : Option ℕ) → length (turn_begun before o after) ≤ 1
+turn_or_none before after None = omega arith
+turn_or_none before after (Some t) = omega arith
+
+few_turns : (before ms : List Mark) → length (turns_after before ms) ≤ length ms
+unfolding turns_after
+few_turns before [] = omega arith
+few_turns before (m ∷ ms) =
+    let all = length-append (turn_begun before (dispatched m) ms) (turns_after (before ++ m ∷ []) ms) in
+    omega (arith, all, turn_or_none before ms (dispatched m), few_turns (before ++ m ∷ []) ms)
+
+turns_are : (cut : Bool) (n : ℕ) → (if cut then with_end cut n else with_end cut n - 1) ≡ n
+turns_are true n = refl
+turns_are false n = omega arith
+
+-- the turns that are drawn have numbers
+numbered : (from turns : ℕ) (marks : List Mark) → length marks < 2 ^ 64 → 0 < length (columns_of from turns marks) → from + length (columns_of from turns marks) ≤ 2 ^ 64
+numbered from turns marks fits some =
+    let short = length-take turns (drop (from - 1) (turns_of marks)) in
+    let left = length-drop (from - 1) (turns_of marks) in
+    omega (arith, few_turns [] marks)
+
+pub chart_within : (from turns : ℕ) (end : End) (marks : List Mark) → turns ≤ most_turns → length marks < 2 ^ 64 → IsWithinColumns (chart from turns end marks)
 unfolding chart
-chart_within from turns end marks few =
+chart_within from turns end marks few fits =
     let columns : List Turn = columns_of from turns marks in
     let cut : Bool = is_cut from turns marks in
     let more = end_more cut (length columns) in
     record {
       columns = omega (arith, more.1, few_columns from turns marks few);
+      turns = subst (λ (n : ℕ). 0 < n → from + n ≤ 2 ^ 64) (sym (turns_are cut (length columns))) (numbered from turns marks fits);
       lanes = All-map (IsLaneWithin (with_end cut (length columns))) (lane_of cut marks columns) _ (λ k d low. lane_lies cut marks columns _);
       moments = All-weaker (λ (m : Moment). m.column < length columns) (λ (m : Moment). m.column < with_end cut (length columns)) (λ m low. omega (arith, more.0)) _
           (moments_lie 0 (length columns) columns (omega arith));

@@ -1,7 +1,7 @@
 -- Charts that lie within so many columns.
-use Rattle.std.specs.Prelude.{◌+◌, ◌<◌, ◌≤◌, ℕ, IfSome}
+use Rattle.std.specs.Prelude.{◌+◌, ◌<◌, ◌≤◌, ◌^◌, ℕ, IfSome}
 use Rattle.std.specs.List.{All}
-use Rattle.pth_drawing.specs.Charts.{ChartSeen, LaneSeen}
+use Rattle.pth_drawing.specs.Charts.{ChartSeen, LaneSeen, turns_in}
 use Rattle.pth_drawing.specs.declared.chart.Stretch.{Stretch}
 
 -- how many turns are drawn at most
@@ -22,8 +22,9 @@ pub record IsLaneWithin (columns : ℕ) (lane : LaneSeen) : Type 0 where
   pub canceled : All (λ column. column < columns) lane.canceled
   pub ended : IfSome lane.ended (λ column. column < columns)
 
--- a chart has no more columns than may be, and all of it lies within them
+-- a chart has no more columns than may be, its turns have numbers, and all of it lies within the columns
 pub record IsWithinColumns (chart : ChartSeen) : Type 0 where
   pub columns : chart.columns ≤ most_columns
+  pub turns : 0 < turns_in chart → chart.from + turns_in chart ≤ 2 ^ 64
   pub lanes : All (IsLaneWithin chart.columns) chart.lanes
   pub moments : All (λ m. m.column < chart.columns) chart.moments

@@ -1,5 +1,5 @@
 -- What is drawn of a run, as lists.
-use Rattle.std.specs.Prelude.{ℕ, Bool, List, Option, map}
+use Rattle.std.specs.Prelude.{ℕ, ◌-◌, Bool, if◌then◌else◌, List, Option, map}
 use Rattle.pth_drawing.specs.declared.chart.Chart.{Chart}
 use Rattle.pth_drawing.specs.declared.chart.End.{End}
 use Rattle.pth_drawing.specs.declared.chart.Lane.{Lane}
@@ -24,6 +24,10 @@ pub record ChartSeen : Type 0 where
   pub moments : List Moment
   -- how the run ended
   pub end : End
+
+-- how many columns are turns
+abbrev pub turns_in : ChartSeen → ℕ
+turns_in chart = if chart.is_cut then chart.columns else chart.columns - 1
 
 abbrev pub lane_seen : Lane → LaneSeen
 lane_seen l = record { thread = l.thread; stretches = l.stretches.items; canceled = l.canceled.items; ended = l.ended }

@@ -1,8 +1,8 @@
 -- The picture of a chart, as a text in SVG. Lengths are in pixels, and places are counted from the upper left corner.
-use Rattle.std.specs.Prelude.{◌+◌, ◌*◌, ◌==◌, ℕ, if◌then◌else◌, List, [], ◌∷◌, ◌++◌, codes, decimal, flat_map, fold, length, max, Option, Some, None}
+use Rattle.std.specs.Prelude.{◌+◌, ◌*◌, ◌/◌, ◌==◌, ℕ, if◌then◌else◌, List, [], ◌∷◌, ◌++◌, codes, decimal, flat_map, fold, length, max, Option, Some, None}
 use Rattle.std.specs.Fmt.{signed_decimal}
-use Rattle.std.specs.List.{concat}
-use Rattle.pth_drawing.specs.Charts.{ChartSeen, LaneSeen}
+use Rattle.std.specs.List.{concat, range_with_len}
+use Rattle.pth_drawing.specs.Charts.{ChartSeen, LaneSeen, turns_in}
 use Rattle.pth_drawing.specs.Svg.{attribute}
 use Rattle.pth_drawing.specs.declared.chart.End.{End}
 use Rattle.pth_drawing.specs.declared.chart.End.TheVariants as end
@@ -28,11 +28,23 @@ opening_line width height = concat (codes "<svg xmlns=\"http://www.w3.org/2000/s
     ∷ codes " viewBox=\"0 0 " ∷ decimal width ∷ codes " " ∷ decimal height
     ∷ codes "\">\n<rect width=\"100%\" height=\"100%\" fill=\"white\"/>\n" ∷ [])
 
--- how text, stretches, crosses and bars look
+-- how text, ticks, stretches, crosses and bars look
 unfoldable pub style_line : List ℕ
-style_line = concat (codes "<style>text{font:10px monospace;fill:#111827}"
+style_line = concat (codes "<style>text{font:10px monospace;fill:#111827}.turn{stroke:#d1d5db}"
     ∷ codes ".running{fill:#2563eb}.waiting{fill:#f59e0b}.ready{fill:#9ca3af}"
     ∷ codes ".canceled{stroke:#dc2626;stroke-width:2}.ended{stroke:#111827;stroke-width:3}</style>\n" ∷ [])
+
+-- ---- the axis of turns
+
+-- a line through all lanes at the left edge of a column, and the number of its turn below
+unfoldable pub tick_line : (top bottom column turn : ℕ) → List ℕ
+tick_line top bottom column turn = concat (codes "<path class=\"turn\" d=\"M" ∷ decimal (left_of column) ∷ codes " " ∷ decimal top
+    ∷ codes "V" ∷ decimal (bottom + 4) ∷ codes "\"/>\n<text" ∷ attribute (codes "x") (left_of column) ∷ attribute (codes "y") (bottom + 14)
+    ∷ codes ">" ∷ decimal turn ∷ codes "</text>\n" ∷ [])
+
+-- the first turn that is drawn has a tick, and so has each tenth one after it
+abbrev pub axis_lines : (top bottom from turns : ℕ) → List ℕ
+axis_lines top bottom from turns = flat_map (λ k. tick_line top bottom (10 * k) (from + 10 * k)) (range_with_len 0 ((turns + 9) / 10))
 
 -- ---- the moments, upright above the first lane
 
@@ -124,11 +136,11 @@ abbrev pub caption_words : ChartSeen → List ℕ
 caption_words chart = from_words chart.from ++ (cut_words chart ++ (codes "End of the run: " ++ ending_words chart.end))
 
 unfoldable pub caption_line : (bottom : ℕ) → ChartSeen → List ℕ
-caption_line bottom chart = codes "<text x=\"4\" y=\"" ++ (decimal (bottom + 16) ++ (codes "\">" ++ (caption_words chart ++ codes "</text>\n")))
+caption_line bottom chart = codes "<text x=\"4\" y=\"" ++ (decimal (bottom + 30) ++ (codes "\">" ++ (caption_words chart ++ codes "</text>\n")))
 
 -- the legend says what each sign means
 unfoldable pub legend_lines : (bottom : ℕ) → List ℕ
-legend_lines bottom = concat (codes "<g transform=\"translate(0 " ∷ decimal (bottom + 24) ∷ codes ")\">\n"
+legend_lines bottom = concat (codes "<g transform=\"translate(0 " ∷ decimal (bottom + 38) ∷ codes ")\">\n"
     ∷ codes "<rect class=\"running\" x=\"4\" y=\"3\" width=\"12\" height=\"14\"/><text x=\"20\" y=\"14\">runs</text>\n"
     ∷ codes "<rect class=\"waiting\" x=\"60\" y=\"3\" width=\"12\" height=\"14\"/><text x=\"76\" y=\"14\">waits</text>\n"
     ∷ codes "<rect class=\"ready\" x=\"122\" y=\"9\" width=\"12\" height=\"2\"/><text x=\"138\" y=\"14\">ready or suspended</text>\n"
@@ -136,13 +148,16 @@ legend_lines bottom = concat (codes "<g transform=\"translate(0 " ∷ decimal (b
     ∷ codes "<line class=\"ended\" x1=\"341\" y1=\"3\" x2=\"341\" y2=\"17\"/><text x=\"348\" y=\"14\">ends</text>\n"
     ∷ codes "<text x=\"388\" y=\"14\">upright: microseconds</text>\n</g>\n" ∷ [])
 
+abbrev pub foot_lines : (bottom : ℕ) → ChartSeen → List ℕ
+foot_lines bottom chart = caption_line bottom chart ++ legend_lines bottom
+
 -- ---- the whole
 
 -- the picture of a chart whose first lane is at `top`, and whose last one ends at `bottom`
 abbrev pub picture_between : (top bottom : ℕ) → ChartSeen → List ℕ
-picture_between top bottom chart = opening_line (width_of chart.columns) (bottom + 48) ++ (style_line
-    ++ (flat_map (moment_line top) chart.moments ++ (lanes_from top chart.lanes
-    ++ (caption_line bottom chart ++ (legend_lines bottom ++ codes "</svg>\n")))))
+picture_between top bottom chart = opening_line (width_of chart.columns) (bottom + 62) ++ (style_line
+    ++ (axis_lines top bottom chart.from (turns_in chart) ++ (flat_map (moment_line top) chart.moments
+    ++ (lanes_from top chart.lanes ++ (foot_lines bottom chart ++ codes "</svg>\n")))))
 
 unfoldable pub picture_of : ChartSeen → List ℕ
 picture_of chart = picture_between (top_of chart.moments) (top_of chart.moments + 20 * length chart.lanes) chart

@@ -2,7 +2,7 @@
 
 ghost use Rattle.std.specs.Prelude.{◌≡◌, ◌<◌, ◌^◌, ◌++◌, OnOk};
 ghost use Rattle.pth_drawing.specs.Charts.{chart_seen};
-ghost use Rattle.pth_drawing.specs.Picture.{caption_line, caption_words, cut_words, ending_words, from_words, legend_lines};
+ghost use Rattle.pth_drawing.specs.Picture.{caption_line, caption_words, cut_words, ending_words, foot_lines, from_words, legend_lines};
 
 use crate::chart::{Chart, End};
 use crate::piece::Piece::{Number, Plain};
@@ -65,29 +65,29 @@ fn add_words(chart: &Chart, out: &mut Text) -> Result<(), OutOfMemory>
     add_end(chart.end, out)
 }
 
-/// Adds the caption below the last lane, whose lower edge is at `bottom`.
+// Adds the caption below the last lane, whose lower edge is at `bottom`.
 #[tactic(auto, unfolding(crate::specs::Picture::caption_line))]
-pub(crate) fn add_caption(bottom: u64, chart: &Chart, out: &mut Text) -> Result<(), OutOfMemory>
+fn add_caption(bottom: u64, chart: &Chart, out: &mut Text) -> Result<(), OutOfMemory>
     requires { bottom < 2 ^ 63 }
     ensures { OnOk result (out.new ≡ out.old ++ caption_line bottom (chart_seen chart.now)) }
 {
     out.push(b"<text x=\"4\" y=\"")?;
-    out.natural(bottom + 16)?;
+    out.natural(bottom + 30)?;
     out.push(b"\">")?;
     add_words(chart, out)?;
     out.push(b"</text>\n")
 }
 
-/// Adds the legend below the caption.
+// Adds the legend below the caption.
 #[tactic(auto, unfolding(crate::specs::Picture::legend_lines))]
-pub(crate) fn add_legend(bottom: u64, out: &mut Text) -> Result<(), OutOfMemory>
+fn add_legend(bottom: u64, out: &mut Text) -> Result<(), OutOfMemory>
     requires { bottom < 2 ^ 63 }
     ensures { OnOk result (out.new ≡ out.old ++ legend_lines bottom) }
 {
     add_pieces(
         &[
             Plain(b"<g transform=\"translate(0 "),
-            Number(bottom + 24),
+            Number(bottom + 38),
             Plain(b")\">\n"),
             Plain(
                 b"<rect class=\"running\" x=\"4\" y=\"3\" width=\"12\" height=\"14\"/><text x=\"20\" y=\"14\">runs</text>\n",
@@ -108,4 +108,13 @@ pub(crate) fn add_legend(bottom: u64, out: &mut Text) -> Result<(), OutOfMemory>
         ],
         out,
     )
+}
+
+/// Adds the caption and the legend, below the axis of turns.
+pub(crate) fn add_foot(bottom: u64, chart: &Chart, out: &mut Text) -> Result<(), OutOfMemory>
+    requires { bottom < 2 ^ 63 }
+    ensures { OnOk result (out.new ≡ out.old ++ foot_lines bottom (chart_seen chart.now)) }
+{
+    add_caption(bottom, chart, out)?;
+    add_legend(bottom, out)
 }

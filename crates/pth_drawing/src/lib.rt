@@ -6,6 +6,7 @@
 //! told is none of a transcript (`IsRefusedAt`).
 #![tactic(auto)]
 
+mod axis;
 pub mod chart;
 pub mod drawing;
 mod end;

@@ -7,8 +7,9 @@ ghost use Rattle.pth_drawing.specs.Picture.{bar_line, cross_line, depth_of, end_
 ghost use Rattle.pth_drawing.specs.Picture.{greatest_moment, moment_line, name_line, shown_word, stretch_line, style_line, top_of};
 ghost use Rattle.pth_drawing.specs.Picture.{lane_lines, lanes_from, picture_between, picture_of};
 
+use crate::axis::{add_axis, turns_in};
 use crate::chart::{Chart, Lane, Moment, Shown, Stretch};
-use crate::foot::{add_caption, add_legend};
+use crate::foot::add_foot;
 use crate::piece::Piece::{Attribute, Number, Plain};
 use crate::piece::add_pieces;
 use itoa::Buffer;
@@ -59,7 +60,7 @@ fn add_style(out: &mut Text) -> Result<(), OutOfMemory>
 {
     add_pieces(
         &[
-            Plain(b"<style>text{font:10px monospace;fill:#111827}"),
+            Plain(b"<style>text{font:10px monospace;fill:#111827}.turn{stroke:#d1d5db}"),
             Plain(b".running{fill:#2563eb}.waiting{fill:#f59e0b}.ready{fill:#9ca3af}"),
             Plain(
                 b".canceled{stroke:#dc2626;stroke-width:2}.ended{stroke:#111827;stroke-width:3}</style>\n",
@@ -319,12 +320,12 @@ fn add_between(top: u64, bottom: u64, chart: &Chart, out: &mut Text) -> Result<(
     requires within { IsWithinColumns (chart_seen chart.now) }
     ensures { OnOk result (out.new ≡ out.old ++ picture_between top bottom (chart_seen chart.now)) }
 {
-    add_opening(width_of(chart.columns), bottom + 48, out)?;
+    add_opening(width_of(chart.columns), bottom + 62, out)?;
     add_style(out)?;
+    add_axis(top, bottom, chart.from, turns_in(chart), out)?;
     add_moments(top, &chart.moments, out)?;
     add_lanes(top, &chart.lanes, out)?;
-    add_caption(bottom, chart, out)?;
-    add_legend(bottom, out)?;
+    add_foot(bottom, chart, out)?;
     out.push(b"</svg>\n")
 }
 
