@@ -2,12 +2,7 @@
 use Rattle.std.proofs.Common.{◌≡◌, ℕ, ◌&&◌, true, List, [], ◌∷◌, ◌++◌, Option, Some, None, is_none, refl, sym, subst}
 use Rattle.std.proofs.lemmas.Bool.{true≢false}
 use Rattle.pth_base.specs.declared.mark.Mark.{Mark}
-use Rattle.pth_turns.specs.Turns.{Account, AreAllowed, is_allowed, account_after, is_thread, speaker, is_up, has_turn, may_end}
-
--- the account after all of these marks
-abbrev pub account_of : Account → List Mark → Account
-account_of a [] = a
-account_of a (m ∷ marks) = account_of (account_after a m) marks
+use Rattle.pth_turns.specs.Turns.{Account, account_of, AreAllowed, is_allowed, account_after, is_thread, speaker, is_up, has_turn, may_end}
 
 -- each of these marks is allowed, and they lead from one account to another
 pub record Leads (a : Account) (marks : List Mark) (b : Account) : Type 0 where

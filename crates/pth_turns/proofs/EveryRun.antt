@@ -31,8 +31,8 @@ use Rattle.pth_laws.specs.Tied.{IsTiedTo}
 use Rattle.pth_laws.specs.Valid.{IsValid, Lives}
 use Rattle.pth_laws.proofs.EveryRun.{run_steps, run_tied, run_valid}
 use Rattle.pth_laws.proofs.Living.{lives_some}
-use Rattle.pth_turns.specs.Turns.{Account, InTurns, first_account, account_after, answered, ends, is_up}
-use Rattle.pth_turns.proofs.Accounts.{Leads, account_of, leads_nowhere, leads_then}
+use Rattle.pth_turns.specs.Turns.{Account, account_of, InTurns, first_account, account_after, answered, ends, is_up}
+use Rattle.pth_turns.proofs.Accounts.{Leads, leads_nowhere, leads_then}
 use Rattle.pth_turns.proofs.Parts.{Fits, HasWaited, Leaves, ahead, moved_leaves, take_leaves, takes_made, takes_outcome, close_leaves, step_leaves}
 use Rattle.pth_turns.proofs.Progress.{run_there}
 use Rattle.pth_turns.proofs.Steps.{and_both}

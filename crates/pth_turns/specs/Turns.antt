@@ -64,17 +64,29 @@ module _ (a : Account) where
   abbrev pub may_end : ℕ → Bool
   may_end t = is_thread (speaker a.canceled a.running) t && is_up t
 
+  -- the next turn begins, and t has it
+  abbrev pub may_dispatch : (turn at t : ℕ) → Bool
+  may_dispatch turn at t = is_none a.running && (turn == a.turn + 1) && nat_le a.moment at && is_up t && not (a.waiting t)
+
+  -- t, which waits, is woken between two turns
+  abbrev pub may_wake : ℕ → Bool
+  may_wake t = is_none a.running && a.waiting t && is_up t
+
+  -- t is canceled in another thread's turn
+  abbrev pub may_be_canceled : ℕ → Bool
+  may_be_canceled t = is_some a.running && is_none a.canceled && not (is_thread a.running t) && is_up t
+
   abbrev pub is_allowed : Mark → Bool
-  is_allowed (mark.Dispatch turn at t rank waited allowed) = is_none a.running && (turn == a.turn + 1) && nat_le a.moment at && is_up t.0 && not (a.waiting t.0)
+  is_allowed (mark.Dispatch turn at t rank waited allowed) = may_dispatch turn at t.0
   is_allowed (mark.Moved at) = is_none a.running && nat_lt a.moment at
-  is_allowed (mark.Woke t rank) = is_none a.running && a.waiting t.0 && is_up t.0
+  is_allowed (mark.Woke t rank) = may_wake t.0
   is_allowed (mark.Answered t c x) = has_turn t.0 && is_next_made a.made c x
   is_allowed (mark.Waits t c) = has_turn t.0
   is_allowed (mark.Retakes t c) = has_turn t.0
   is_allowed (mark.Took t m) = has_turn t.0
   is_allowed (mark.Noted t v) = has_turn t.0
   is_allowed (mark.Canceled t (Some c)) = has_turn t.0
-  is_allowed (mark.Canceled t None) = is_some a.running && is_none a.canceled && not (is_thread a.running t.0) && is_up t.0
+  is_allowed (mark.Canceled t None) = may_be_canceled t.0
   is_allowed (mark.Withdrew t b) = may_end t.0
   is_allowed (mark.Handler t h v) = may_end t.0
   is_allowed (mark.Destructor t key v) = may_end t.0
@@ -113,6 +125,11 @@ module _ (a : Account) where
   account_after m = a
 
 -- ---- the law
+
+-- the account after all of these marks
+abbrev pub account_of : Account → List Mark → Account
+account_of a [] = a
+account_of a (m ∷ marks) = account_of (account_after a m) marks
 
 -- each mark is allowed by the account of those before it
 abbrev pub AreAllowed : Account → List Mark → Type 0
