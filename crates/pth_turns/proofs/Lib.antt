@@ -8,3 +8,4 @@ pub mod Progress
 pub mod Parts
 pub mod EveryRun
 pub mod Refused
+pub mod Judging

@@ -108,15 +108,23 @@ module _ (a : Account) where
   abbrev pub waits : ℕ → Account
   waits t = record a { running = None; waiting = put a.waiting t true }
 
-  -- t ends; by: who is canceled
+  -- t is woken
+  abbrev pub wakes : ℕ → Account
+  wakes t = record a { waiting = put a.waiting t false }
+
+  -- who ends has no more lines; by: who is canceled
+  abbrev pub stops : Option ℕ → Account
+  stops (Some u) = record a { canceled = None }
+  stops None = record a { running = None }
+
+  -- t ends
   abbrev pub ends : Option ℕ → ℕ → Account
-  ends (Some u) t = record a { canceled = None; ended = put a.ended t true }
-  ends None t = record a { running = None; ended = put a.ended t true }
+  ends canceled t = record (stops canceled) { ended = put a.ended t true }
 
   abbrev pub account_after : Mark → Account
   account_after (mark.Dispatch turn at t rank waited allowed) = record a { turn = turn; moment = at; running = Some t.0 }
   account_after (mark.Moved at) = record a { moment = at }
-  account_after (mark.Woke t rank) = record a { waiting = put a.waiting t.0 false }
+  account_after (mark.Woke t rank) = wakes t.0
   account_after (mark.Answered t c x) = answered c x
   account_after (mark.Waits t c) = waits t.0
   account_after (mark.Retakes t c) = waits t.0

@@ -1,10 +1,11 @@
 //! Judges marks one by one by the law of turns.
 
-ghost use Rattle.std.specs.Prelude.{◌≡◌, ◌==◌, ◌&&◌, ◌||◌, not, [], ℕ, IfOk, List, OnOk, true};
+ghost use Rattle.std.specs.Prelude.{◌≡◌, ◌↔◌, ◌==◌, ◌&&◌, ◌||◌, [], ℕ, IfOk, IsTrue, List, OnOk, Some, false, not, true};
 ghost use Rattle.pth_base.specs.declared.mark.Mark.{Mark as MarkOf};
 ghost use Rattle.pth_model.specs.Living.{is_made};
 ghost use Rattle.pth_turns.specs.Judging.{Follows, IsJudged, account_in, has};
 ghost use Rattle.pth_turns.specs.Turns as turns;
+ghost use Rattle.pth_turns.specs.Turns.{InTurns};
 
 use pth_base::answer::Answer;
 use pth_base::call::Call;
@@ -52,6 +53,21 @@ fn is_next_made(made: u64, call: &Call, answer: &Answer) -> bool
         (Call::Spawn { .. }, Answer::Int(n)) => *n > 0 && (*n - 1) as u64 == made,
         _ => true,
     }
+}
+
+// A thread is one of a set.
+fn insert(set: &mut BTreeSet<u64>, t: u32) -> Result<(), OutOfMemory>
+    ensures { OnOk result ((u : ℕ) → has set.new u ≡ (has set.old u || (t == u))) }
+{
+    let _new = set.insert(u64::from(t))?;
+    Ok(())
+}
+
+// A thread is none of a set.
+fn remove(set: &mut BTreeSet<u64>, t: u32)
+    ensures { (u : ℕ) → has set.new u ≡ (has set.old u && not (t == u)) }
+{
+    let _was = set.remove(&u64::from(t));
 }
 
 impl TurnJudge {
@@ -151,4 +167,106 @@ impl TurnJudge {
             | Mark::Ended { tid, .. } => self.may_end(*tid),
         }
     }
+    // A thread is dispatched.
+    fn dispatch(&mut self, turn: u64, at: u64, t: Tid)
+        ensures { account_in self.new ≡ record (account_in self.old) { turn = turn; moment = at; running = Some t.0 } }
+    {
+        self.turn = turn;
+        self.moment = at;
+        self.running = Some(t.0);
+    }
+
+    // A thread waits, and gives up control.
+    fn wait(&mut self, t: Tid) -> Result<(), OutOfMemory>
+        ensures { OnOk result (account_in self.new ≡ turns.waits (account_in self.old) t.0) }
+    {
+        self.running = None;
+        insert(&mut self.waiting, t.0)
+    }
+
+    // A thread is woken.
+    fn wake(&mut self, t: Tid)
+        ensures { account_in self.new ≡ turns.wakes (account_in self.old) t.0 }
+    {
+        remove(&mut self.waiting, t.0);
+    }
+
+    // Who ends, in its own turn or canceled in another's, has no more lines.
+    fn stop(&mut self)
+        ensures account { account_in self.new ≡ turns.stops (account_in self.old) (account_in self.old).canceled }
+        ensures ended { (account_in self.new).ended ≡ (account_in self.old).ended }
+    {
+        match self.canceled {
+            Some(_) => self.canceled = None,
+            None => self.running = None,
+        }
+    }
+
+    // A thread ends.
+    fn end(&mut self, t: Tid) -> Result<(), OutOfMemory>
+        ensures { OnOk result (account_in self.new ≡ turns.ends (account_in self.old) (account_in self.old).canceled t.0) }
+    {
+        self.stop();
+        insert(&mut self.ended, t.0)
+    }
+
+    // A call is answered.
+    fn answer(&mut self, call: &Call, answer: &Answer)
+        requires { turns.is_next_made self.old.made call.now answer.now ≡ true }
+        ensures { account_in self.new ≡ turns.answered (account_in self.old) call.now answer.now }
+    {
+        match (call, answer) {
+            (Call::Spawn { .. }, Answer::Int(n)) => self.made = *n as u64,
+            (Call::Yield(_), Answer::Int(_)) => self.running = None,
+            (Call::Kill, Answer::Int(_)) => {
+                self.running = None;
+                self.is_killed = true;
+            }
+            _ => {}
+        }
+    }
+
+    // An allowed mark comes.
+    fn take(&mut self, mark: &Mark) -> Result<(), OutOfMemory>
+        requires { turns.is_allowed (account_in self.old) mark.now ≡ true }
+        ensures { OnOk result (account_in self.new ≡ turns.account_after (account_in self.old) mark.now) }
+    {
+        match mark {
+            Mark::Dispatch { turn, at, tid, .. } => self.dispatch(*turn, *at, *tid),
+            Mark::Moved { at } => self.moment = *at,
+            Mark::Woke { tid, .. } => self.wake(*tid),
+            Mark::Answered { call, answer, .. } => self.answer(call, answer),
+            Mark::Canceled { tid, call: None } => self.canceled = Some(tid.0),
+            Mark::Waits { tid, .. } | Mark::Retakes { tid, .. } => return self.wait(*tid),
+            Mark::Ended { tid, .. } => return self.end(*tid),
+            _ => {}
+        }
+        Ok(())
+    }
+
+    /// Follows one mark more and answers `true`, if the marks are in turns with it. Otherwise it answers `false`, and nothing changes.
+    /// After an error it may only be dropped.
+    pub fn add(&mut self, mark: &Mark) -> Result<bool, OutOfMemory>
+        ensures judged { IfOk result (λ yes. (marks : List MarkOf) → Follows self.old marks → IsJudged yes self.new marks mark.now) }
+        ensures refused { IfOk result (λ yes. yes ≡ false → self.new ≡ self.old) }
+    {
+        if !self.is_allowed(mark) {
+            return Ok(false);
+        }
+        self.take(mark)?;
+        Ok(true)
+    }
+}
+
+/// Whether marks are in turns.
+pub fn are_in_turns(alloc: Global, marks: &[Mark]) -> Result<bool, OutOfMemory>
+    ensures { IfOk result (λ yes. IsTrue yes ↔ InTurns marks.now) }
+{
+    let mut judge = TurnJudge::new(alloc);
+    for i in 0..marks.len() {
+        if !judge.add(&marks[i])? {
+            return Ok(false);
+        }
+    }
+    Ok(true)
 }
