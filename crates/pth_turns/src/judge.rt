@@ -263,8 +263,8 @@ pub fn are_in_turns(alloc: Global, marks: &[Mark]) -> Result<bool, OutOfMemory>
     ensures { IfOk result (λ yes. IsTrue yes ↔ InTurns marks.now) }
 {
     let mut judge = TurnJudge::new(alloc);
-    for i in 0..marks.len() {
-        if !judge.add(&marks[i])? {
+    for mark in marks {
+        if !judge.add(mark)? {
             return Ok(false);
         }
     }
