@@ -22,7 +22,8 @@ use Rattle.pth_model.specs.Coming.{descriptors_bring}
 use Rattle.pth_model.specs.Io.{trial_for, answered_or_waits}
 use Rattle.pth_model.specs.declared.awaits.Awaits.{Awaits}
 use Rattle.pth_model.specs.declared.awaits.Awaits.TheVariants as awaits
-use Rattle.pth_agreement.specs.Descriptors.{in_sets, asked_by_wait, asked_by_event}
+use Rattle.pth_agreement.specs.Descriptors.{in_sets}
+use Rattle.pth_agreement.proofs.Asked.{asked_by_wait, asked_by_event}
 use Rattle.pth_agreement.proofs.Others.{Others, other_kernel, AllLeft, left_parts}
 
 -- of the other trace the same came up to now

@@ -1,3 +1,4 @@
+pub mod Asked
 pub mod Others
 pub mod Placed
 pub mod Kernels
@@ -10,3 +11,6 @@ pub mod WholeRuns
 pub mod LongerScripts
 pub mod OtherTraces
 pub mod Opened
+pub mod Waits
+pub mod Clear
+pub mod ClearRuns

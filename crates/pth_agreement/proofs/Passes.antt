@@ -8,7 +8,7 @@ use Rattle.pth_base.specs.declared.event.EventSpec.{EventSpec}
 use Rattle.pth_base.specs.declared.event.EventSpec.TheVariants as of
 use Rattle.pth_kernel.specs.Kernel.{fd_named}
 use Rattle.pth_agreement.proofs.Others.{Others, AllLeft}
-use Rattle.pth_agreement.specs.Descriptors.{asked_by_wait, asked_by_event}
+use Rattle.pth_agreement.proofs.Asked.{asked_by_wait, asked_by_event}
 use Rattle.pth_ring.specs.Ring.{each, ring_holds}
 use Rattle.pth_ring.specs.Rings.{is_settled, with_status, with_next_look}
 use Rattle.pth_ring.specs.declared.event.Event.{Event}

@@ -15,7 +15,8 @@ use Rattle.pth_base.specs.declared.mark.Mark.TheVariants as mark
 use Rattle.pth_base.specs.declared.query.Query.{Query}
 use Rattle.pth_base.specs.declared.query.Query.TheVariants as query
 use Rattle.pth_agreement.proofs.Others.{Others, AllLeft}
-use Rattle.pth_agreement.specs.Descriptors.{in_sets, asked_by_call, asked_by_wait}
+use Rattle.pth_agreement.specs.Descriptors.{in_sets, asked_by_call}
+use Rattle.pth_agreement.proofs.Asked.{asked_by_wait}
 use Rattle.pth_base.specs.declared.ids.FdSet.{FdSet}
 use Rattle.pth_kernel.specs.Kernel.{fd_named, fd_closed}
 use Rattle.pth_kernel.specs.Modes.{sets_mode}

@@ -18,7 +18,8 @@ use Rattle.pth_agreement.specs.Agreement.{IsAlikeUpTo, AgreesWithProgram, with_p
 use Rattle.pth_agreement.proofs.Placed.{Bare}
 use Rattle.pth_agreement.proofs.Kernels.{ShowsSame, WaitLeft, EventLeft, AsksLeft}
 use Rattle.pth_agreement.proofs.Others.{Others, other_kernel, AllLeft}
-use Rattle.pth_agreement.specs.Descriptors.{asked_by_call, asked_by_wait, asked_by_event}
+use Rattle.pth_agreement.specs.Descriptors.{asked_by_call}
+use Rattle.pth_agreement.proofs.Asked.{asked_by_wait, asked_by_event}
 use Rattle.pth_ring.specs.declared.event.Event.{Event}
 use Rattle.pth_agreement.proofs.Endings.{stepping_so}
 use Rattle.pth_agreement.proofs.Passes.{moments_same}

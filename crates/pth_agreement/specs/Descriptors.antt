@@ -1,20 +1,15 @@
--- The descriptors that calls, waits and events ask of, and runs that ask nothing of one.
-use Rattle.std.specs.Prelude.{◌≡◌, ◌≢◌, ◌<◌, ℕ, true, List, [], ◌∷◌, ◌++◌, All, Some}
+-- The descriptors that calls name, and runs in which no call names one.
+use Rattle.std.specs.Prelude.{◌≡◌, ◌≢◌, ◌<◌, ℕ, true, List, [], ◌∷◌, ◌++◌, All}
 use Rattle.pth_base.specs.Descriptors.{members}
 use Rattle.pth_base.specs.Program.{Functions}
 use Rattle.pth_base.specs.Table.{put}
 use Rattle.pth_base.specs.declared.call.Call.{Call}
 use Rattle.pth_base.specs.declared.call.Call.TheVariants as call
-use Rattle.pth_base.specs.declared.event.EventSpec.{EventSpec}
-use Rattle.pth_base.specs.declared.event.EventSpec.TheVariants as of
+use Rattle.pth_base.specs.declared.event.EvLine.{EvLine}
+use Rattle.pth_base.specs.declared.event.EvLine.TheVariants as line
 use Rattle.pth_base.specs.declared.ids.FdSet.{FdSet}
 use Rattle.pth_kernel.specs.Kernel.{Kernel, fd_named}
-use Rattle.pth_ring.specs.declared.event.Event.{Event}
-use Rattle.pth_model.specs.declared.awaits.Awaits.{Awaits}
-use Rattle.pth_model.specs.declared.awaits.Awaits.TheVariants as awaits
-use Rattle.pth_model.specs.declared.blocked.Blocked.{Blocked}
 use Rattle.pth_model.specs.declared.progress.Progress.{Progress}
-use Rattle.pth_model.specs.Changes.{blocked_of}
 use Rattle.pth_model.specs.Course.{Course}
 use Rattle.pth_model.specs.Run.{run}
 use Rattle.pth_model.specs.State.{Given}
@@ -24,7 +19,7 @@ use Rattle.pth_agreement.specs.Agreement.{AsksForCall, given_to}
 abbrev pub in_sets : FdSet → FdSet → FdSet → List ℕ
 in_sets r w x = members r.0 ++ members w.0 ++ members x.0
 
--- those of which a call asks the kernel as it begins: one that makes an event asks nothing yet
+-- those of which a call asks the kernel as it begins
 abbrev pub asked_by_call : Call → List ℕ
 asked_by_call (call.Fdmode f m) = fd_named f ∷ []
 asked_by_call (call.Read f n) = fd_named f ∷ []
@@ -40,33 +35,27 @@ asked_by_call (call.SelectEv r w x l e) = in_sets r w x
 asked_by_call (call.Close f) = fd_named f ∷ []
 asked_by_call c = []
 
-abbrev pub asked_by_wait : Awaits → List ℕ
-asked_by_wait (awaits.Reading f n) = fd_named f ∷ []
-asked_by_wait (awaits.Writing f total done) = fd_named f ∷ []
-asked_by_wait (awaits.Connection f) = fd_named f ∷ []
-asked_by_wait (awaits.ConnectAnswer f) = fd_named f ∷ []
-asked_by_wait (awaits.Selection r w x deadline) = in_sets r w x
-asked_by_wait a = []
+-- those that a line names which makes an event
+abbrev pub named_by_line : EvLine → List ℕ
+named_by_line (line.Fd goals fd) = fd_named fd ∷ []
+named_by_line (line.Select r w x) = in_sets r w x
+named_by_line l = []
 
-abbrev pub asked_by_event : EventSpec → List ℕ
-asked_by_event (of.Fd goals fd) = fd_named fd ∷ []
-asked_by_event (of.Select r w x) = in_sets r w x
-asked_by_event spec = []
+-- those that a call names: of which it asks, or of which an event is that it makes
+abbrev pub named_by_call : Call → List ℕ
+named_by_call (call.EvFd goals fd) = fd_named fd ∷ []
+named_by_call (call.EvSelect r w x) = in_sets r w x
+named_by_call (call.Chain e l) = named_by_line l
+named_by_call c = asked_by_call c
 
 -- d is none of them
 abbrev pub IsNoneOf : ℕ → List ℕ → Type 0
 IsNoneOf d fs = All (λ f. f ≢ d) fs
 
-module _ {P S H : Type 0} where
-  -- as a run stands, no wait and no event asks of descriptor d, nor does the call that a thread asks the program for
-  pub record AsksNothingOf (d : ℕ) (a : Functions S H) (c : Course P S H) : Type 0 where
-    pub waits : (t : ℕ) (b : Blocked) → blocked_of c.state.control t ≡ Some b → IsNoneOf d (asked_by_wait b.awaits)
-    pub events : (e : ℕ) (x : Event) → c.state.control.events.events e ≡ Some x → IsNoneOf d (asked_by_event x.spec)
-    pub calls : (t : ℕ) (p : Progress S) → AsksForCall c t p → IsNoneOf d (asked_by_call (given_to a p c).call)
-
-  -- nor did they at any part before part i
-  abbrev pub NeverAsksUpTo : (d : ℕ) → (P → Functions S H) → Given P → (i : ℕ) → Type 0
-  NeverAsksUpTo d f g i = (j : ℕ) → j < i → AsksNothingOf d (f g.program) (run f g j)
+-- no call that a thread asks for before part i names d
+abbrev pub NeverNamesUpTo : {P S H : Type 0} → (d : ℕ) → (P → Functions S H) → Given P → (i : ℕ) → Type 0
+NeverNamesUpTo {S = S} d f g i =
+    (j t : ℕ) (p : Progress S) → j < i → AsksForCall (run f g j) t p → IsNoneOf d (named_by_call (given_to (f g.program) p (run f g j)).call)
 
 -- a kernel in which d is open
 abbrev pub opened : ℕ → Kernel → Kernel

@@ -5,7 +5,7 @@ ghost use Rattle.pth_base.specs.declared.outcome.Outcome.TheVariants.{Running, S
 ghost use Rattle.pth_line.specs.Script.{functions_of};
 ghost use Rattle.pth_model.specs.Example.{given, given_a_byte, reading_bodies};
 ghost use Rattle.pth_model.specs.Run.{run};
-ghost use Rattle.pth_agreement.specs.Descriptors.{NeverAsksUpTo, given_opened};
+ghost use Rattle.pth_agreement.specs.Descriptors.{NeverNamesUpTo, given_opened};
 ghost use Rattle.pth_agreement.specs.Example.{one_note, two_notes, noted, ended_there, noted_again, given_nothing, refused_there, waits_there};
 ghost use Rattle.pth_agreement.specs.Scripts.{NeverAtEndUpTo};
 ghost use Rattle.pth_agreement.specs.Traces.{DiffersLater};
@@ -30,11 +30,11 @@ pub fn a_stamp_more()
     ensures goes_on { (run reading_bodies given_a_byte 4).turn.outcome ≡ Running }
 {}
 
-/// By the definitions, a main that reads asks of its descriptor in the second part of its run, and not before. In that part the read is
+/// By the definitions, a main that reads names its descriptor in the second part of its run, and not before. In that part the read is
 /// refused, or waits if the descriptor is open from the start.
 pub fn a_descriptor_more()
-    ensures before { NeverAsksUpTo 3 reading_bodies given 1 }
-    ensures then { NeverAsksUpTo 3 reading_bodies given 2 → ⊥ }
+    ensures before { NeverNamesUpTo 3 reading_bodies given 1 }
+    ensures then { NeverNamesUpTo 3 reading_bodies given 2 → ⊥ }
     ensures refused { (run reading_bodies given 2).marks ≡ refused_there }
     ensures waits { (run reading_bodies (given_opened 3 given) 2).marks ≡ waits_there }
 {}

@@ -1,4 +1,4 @@
-use Rattle.std.proofs.Common.{◌≡◌, ℕ, zero, suc, None, Some, Option, refl, sym, ◌∙◌, lt-suc_self, not-suc-le-zero, le_of_suc-le-suc}
+use Rattle.std.proofs.Common.{◌≡◌, ℕ, zero, suc, None, refl, lt-suc_self, not-suc-le-zero, le_of_suc-le-suc}
 use Rattle.pth_base.specs.Table.{put}
 use Rattle.pth_numbered.specs.Numbered.{number_known}
 use Rattle.pth_threads.specs.Threads.{changed, made_of}
@@ -9,7 +9,7 @@ use Rattle.pth_model.specs.Standing.{put_behind, order, shown}
 use Rattle.pth_model.specs.Allowance.{points, waited, grace, is_before, newcomers, beyond, allowed}
 use Rattle.pth_model.specs.State.{start}
 use Rattle.pth_model.specs.Transition.{tells_each}
-use Rattle.pth_model.specs.Changes.{blocked_of, blocked_in, sets, goes_on, enters, leaves_queue, trails, raises_ready, makes, forgets}
+use Rattle.pth_model.specs.Changes.{sets, goes_on, enters, leaves_queue, trails, raises_ready, makes, forgets}
 use Rattle.pth_model.specs.RingWaits.{claims, gives_back, stops_waiting}
 use Rattle.pth_model.specs.Barriers.{withdraws_from}
 use Rattle.pth_model.specs.Conditions.{hands_on_seat}
@@ -20,47 +20,25 @@ use Rattle.pth_model.specs.Rows.{row_of}
 use Rattle.pth_model.specs.Calls.{begun, gone_on, tried_again, wakes, waits_until}
 use Rattle.pth_model.specs.Pass.{is_ready_at, woken, all_woken, looks, comes_for, to_wake, pass}
 use Rattle.pth_model.specs.Part.{Take, Step, moves, readies, readies_all, runs, dispatches, takes, steps, is_put_back, is_put_waiting, is_placed, closes, next_part, part}
-use Rattle.pth_model.specs.Run.{parts, run}
-use Rattle.pth_base.proofs.Tables.{put_by}
+use Rattle.pth_model.specs.Run.{parts}
 use Rattle.pth_base.specs.declared.answer.Answer.TheVariants as answer
-use Rattle.pth_ring.specs.declared.event.Event.{Event}
-use Rattle.pth_model.specs.Example.{Place, given, reading_bodies}
-use Rattle.pth_model.specs.declared.blocked.Blocked.{Blocked}
+use Rattle.pth_model.specs.Example.{Place}
 use Rattle.pth_model.specs.declared.progress.Progress.{Progress}
-use Rattle.pth_agreement.specs.Descriptors.{AsksNothingOf}
 use Rattle.pth_agreement.proofs.example.a_descriptor_more.Goals as goal
 
 no_step : (t : ℕ) → Take ≡ Step t → ⊥
 no_step t same = cc same
 
-no_wait : (b : Blocked) → None ≡ Some b → ⊥
-no_wait b same = cc same
-
-no_event : (x : Event) → None ≡ Some x → ⊥
-no_event x same = cc same
-
--- at first no call blocks main, and there is nobody else
-unblocked : (t : ℕ) → blocked_of (run reading_bodies given 0).state.control t ≡ None
-unfolding parts start
-unblocked t = put_by {A = Option (Progress Place)} (λ o. blocked_in o ≡ None) (λ t. None) 1 (Some (record { state = record { body = 0; gone = 0 }; owed = answer.None; blocked = None })) t (λ here. refl) (λ apart. refl)
-
-asks_nothing : AsksNothingOf 3 (reading_bodies 0) (run reading_bodies given 0)
-unfolding read_answer read_after came_to unread parts start part next_part closes is_placed is_put_waiting is_put_back steps takes dispatches runs trails readies_all readies moves pass looks comes_for to_wake all_woken woken is_ready_at wakes waits_until gone_on tried_again may_be_canceled begun row_of is_alone withdraws_from hands_on_seat ending mutexes_had locks_held tells_each runs_each destructs next_destructor leaves is_dead_with forgets makes raises_ready leaves_queue enters goes_on claims gives_back stops_waiting sets number_known shown order put_behind put changed made_of told answer_told points waited grace is_before newcomers beyond allowed
-asks_nothing = record {
-  waits = λ t b at. absurd (no_wait b (sym (unblocked t) ∙ at));
-  events = λ e x at. absurd (no_event x at);
-  calls = λ t p asks. absurd (no_step t asks.steps);
-}
-
 pub returns-clause-before : goal.returns-clause-before
-returns-clause-before c zero before = asks_nothing
-returns-clause-before c (suc j) before = absurd (not-suc-le-zero (le_of_suc-le-suc before))
+unfolding read_answer read_after came_to unread parts start part next_part closes is_placed is_put_waiting is_put_back steps takes dispatches runs trails readies_all readies moves pass looks comes_for to_wake all_woken woken is_ready_at wakes waits_until gone_on tried_again may_be_canceled begun row_of is_alone withdraws_from hands_on_seat ending mutexes_had locks_held tells_each runs_each destructs next_destructor leaves is_dead_with forgets makes raises_ready leaves_queue enters goes_on claims gives_back stops_waiting sets number_known shown order put_behind put changed made_of told answer_told points waited grace is_before newcomers beyond allowed
+returns-clause-before c zero t p before asks = absurd (no_step t asks.steps)
+returns-clause-before c (suc j) t p before asks = absurd (not-suc-le-zero (le_of_suc-le-suc before))
 
 pub returns-clause-then : goal.returns-clause-then
 unfolding read_answer read_after came_to unread parts start part next_part closes is_placed is_put_waiting is_put_back steps takes dispatches runs trails readies_all readies moves pass looks comes_for to_wake all_woken woken is_ready_at wakes waits_until gone_on tried_again may_be_canceled begun row_of is_alone withdraws_from hands_on_seat ending mutexes_had locks_held tells_each runs_each destructs next_destructor leaves is_dead_with forgets makes raises_ready leaves_queue enters goes_on claims gives_back stops_waiting sets number_known shown order put_behind put changed made_of told answer_told points waited grace is_before newcomers beyond allowed
 returns-clause-then c never =
     let main : Progress Place = record { state = record { body = 0; gone = 0 }; owed = answer.None; blocked = None } in
-    (never 1 (lt-suc_self 1)).calls 1 main (record { steps = refl; is_so_far = refl; unblocked = refl }) 0 0 (lt-suc_self 0) refl
+    never 1 1 main (lt-suc_self 1) (record { steps = refl; is_so_far = refl; unblocked = refl }) 0 0 (lt-suc_self 0) refl
 
 pub returns-clause-refused : goal.returns-clause-refused
 unfolding read_answer read_after came_to unread parts start part next_part closes is_placed is_put_waiting is_put_back steps takes dispatches runs trails readies_all readies moves pass looks comes_for to_wake all_woken woken is_ready_at wakes waits_until gone_on tried_again may_be_canceled begun row_of is_alone withdraws_from hands_on_seat ending mutexes_had locks_held tells_each runs_each destructs next_destructor leaves is_dead_with forgets makes raises_ready leaves_queue enters goes_on claims gives_back stops_waiting sets number_known shown order put_behind put changed made_of told answer_told points waited grace is_before newcomers beyond allowed
