@@ -167,6 +167,7 @@ impl TurnJudge {
             | Mark::Ended { tid, .. } => self.may_end(*tid),
         }
     }
+
     // A thread is dispatched.
     fn dispatch(&mut self, turn: u64, at: u64, t: Tid)
         ensures { account_in self.new ≡ record (account_in self.old) { turn = turn; moment = at; running = Some t.0 } }
