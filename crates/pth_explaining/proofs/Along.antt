@@ -1,5 +1,5 @@
 -- A transcript, taken line by line.
-use Rattle.std.proofs.Common.{◌≡◌, ◌∙◌, ◌+◌, ◌<◌, ◌^◌, ℕ, List, [], ◌∷◌, ◌++◌, Option, ap, sym, subst, arith, append-nil, append_assoc, inl, inr, length, length-append}
+use Rattle.std.proofs.Common.{All, ◌≡◌, ◌∙◌, ◌+◌, ◌<◌, ◌^◌, ℕ, List, [], ◌∷◌, ◌++◌, Option, ap, sym, subst, arith, append-nil, append_assoc, inl, inr, length, length-append}
 use Rattle.std.proofs.lemmas.Grind.{flat_map-append}
 use Rattle.std.proofs.lemmas.List.{map-append}
 use Rattle.std.proofs.lemmas.List.Elements.{All-nil, All-push}
@@ -20,7 +20,7 @@ use Rattle.pth_explaining.specs.Why.{IsMade, StopsAt}
 use Rattle.pth_explaining.specs.Taken.{HasTaken}
 
 -- the marks of lines that were taken are kept
-pub record IsAlong (marks : List Mark) (old new : Ahead) (lines : ℕ) : Type 0 where
+pub record IsAlong (marks : List MarkOf) (old new : Ahead) (lines : ℕ) : Type 0 where
   pub told : List Told
   pub takes : Takes old new (told_lines told)
   pub tells : All IsTold told

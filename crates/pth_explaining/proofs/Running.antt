@@ -31,7 +31,7 @@ none out = (Appends-nil out.written, refl)
 pub unasked : (asked : Option (Option (List ℕ))) (s : Scene) (f : Fault) → Names asked (Err f) → Ran why asked s s (Err f)
 unasked (Some asked) s fault.Words h = absurd (cc)
 unasked None s fault.Words h = (tt, ([], refl, only None [] (refusal program fault.Words) refl), none s.out)
-unasked asked s (fault.Input line why) h = absurd h
+unasked asked s (fault.Input line reason) h = absurd h
 unasked asked s fault.ReadFault h = absurd h
 unasked asked s fault.WriteFault h = absurd h
 unasked (Some asked) s fault.OutOfMemory h = (refl, inl (none s.out))
